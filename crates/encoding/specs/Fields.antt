@@ -1,0 +1,36 @@
+-- "Multi-byte fields are little-endian, unsigned." "A bit map, then only the fields whose bit stands." "An absent field is 0, and a
+-- written field is not 0."
+use Prim.Native.Nat.{ℕ, _+_, _*_, _/_, _%_, _^_}
+use mathlib.Core.Bool.{Bool, true, false, not, cond, _||_}
+use mathlib.Core.List.{List}
+use lib.ListN.{getD}
+use lib.Dec.{eqb}
+
+-- does bit k of the map stand
+abbrev pub has : ℕ → ℕ → Bool
+has map k = eqb (map / 2 ^ k % 2) 1
+
+-- how many bytes a field of n bytes takes
+abbrev pub size : Bool → ℕ → ℕ
+size present n = cond present n 0
+
+-- the lower byte first
+abbrev pub wordOf : ℕ → ℕ → ℕ
+wordOf a b = a + b * 256
+
+abbrev pub longOf : ℕ → ℕ → ℕ → ℕ → ℕ
+longOf a b c d = wordOf a b + wordOf c d * 65536
+
+-- the field of 1, 2 or 4 bytes that starts at a place; an absent field is 0
+abbrev pub field8 : List ℕ → Bool → ℕ → ℕ
+field8 s present at = cond present (getD s at 0) 0
+
+abbrev pub field16 : List ℕ → Bool → ℕ → ℕ
+field16 s present at = cond present (wordOf (getD s at 0) (getD s (at + 1) 0)) 0
+
+abbrev pub field32 : List ℕ → Bool → ℕ → ℕ
+field32 s present at = cond present (longOf (getD s at 0) (getD s (at + 1) 0) (getD s (at + 2) 0) (getD s (at + 3) 0)) 0
+
+-- a written field is not 0
+abbrev pub written : Bool → ℕ → Bool
+written present value = not present || not (eqb value 0)

@@ -1,0 +1,2 @@
+-- What the two formats share.
+pub mod Fields

@@ -1,0 +1,42 @@
+use mathlib.Core.List.{List, [], _∷_}
+use mathlib.Core.Path.{ap₂, _∙_}
+use Rattle.kleene.specs.Truth.{Truth, codeOf, or3}
+use Rattle.kleene.proofs.Table.{or-rule}
+use borrow.Author.Needs.{needs}
+use Rattle.kleene.proofs.or.Statement.{statement}
+use Rattle.kleene.proofs.or.Tie as tie
+use Rattle.kleene.proofs.or.Reads as reads
+use Rattle.kleene.proofs.or.Lts as lts
+use Rattle.kleene.proofs.index.Reads as index-reads
+
+-- src/lib.rt:27:8
+index-requires : tie.Need-index-requires
+index-requires c κs = search needs
+
+-- src/lib.rt:27:18
+index-requires-2 : tie.Need-index-requires-2
+index-requires-2 c κs = search needs
+
+-- src/lib.rt:27:5
+mul-result : tie.Need-mul-result
+mul-result c = search needs
+
+-- src/lib.rt:27:5
+index-1-result : tie.Need-index-1-result
+index-1-result c = search needs
+
+-- src/lib.rt:27:5
+index-2-result : tie.Need-index-2-result
+index-2-result c = search needs
+
+-- src/lib.rt:24:1
+returns : tie.Need-returns
+returns c =
+    let i = c .before .before .index in
+    let j = c .before .index2 in
+    or-rule ((0 ∷ 1 ∷ 0 ∷ []) ∷ (1 ∷ 1 ∷ 1 ∷ []) ∷ (0 ∷ 1 ∷ 2 ∷ []) ∷ []) tt (i .result) (j .result) (i .ensures .0) (j .ensures .0) ∙ ap₂ (λ (v w : Truth). codeOf (or3 v w)) (i .ensures .1) (j .ensures .1)
+
+pub or-spec : {M : Type 1} → statement M
+or-spec =
+    tie.close
+    (tie.spec index-requires index-requires-2 mul-result index-1-result index-2-result returns)

@@ -1,0 +1,2 @@
+-- Kleene's three truth values.
+pub mod Truth

@@ -1,0 +1,42 @@
+// Kleene's three truth values as codes: 0 unknown, 1 true, 2 false. A code above 2 reads as unknown.
+ghost use mathlib.Core.Path.{_≡_};
+ghost use Prim.Native.Nat.{_<_};
+ghost use Rattle.kleene.specs.Truth.{codeOf, valueOf, not3, or3, and3, implies3};
+
+// What the two codes' or is: the row is the first code, the column the second.
+const OR: [[u8; 3]; 3] = [[0, 1, 0], [1, 1, 1], [0, 1, 2]];
+
+const NOT: [u8; 3] = [0, 2, 1];
+
+// A code as an index of the tables.
+fn index(x: u8) -> usize
+    ensures { λ r. ⌜ (r < 3) × (valueOf r ≡ valueOf x) ⌝ }
+{
+    if x < 3 { x as usize } else { 0 }
+}
+
+pub fn not(x: u8) -> u8
+    ensures { λ r. ⌜ r ≡ codeOf (not3 (valueOf x)) ⌝ }
+{
+    NOT[index(x)]
+}
+
+pub fn or(x: u8, y: u8) -> u8
+    ensures { λ r. ⌜ r ≡ codeOf (or3 (valueOf x) (valueOf y)) ⌝ }
+{
+    OR[index(x)][index(y)]
+}
+
+// x and y is not (not x or not y).
+pub fn and(x: u8, y: u8) -> u8
+    ensures { λ r. ⌜ r ≡ codeOf (and3 (valueOf x) (valueOf y)) ⌝ }
+{
+    not(or(not(x), not(y)))
+}
+
+// x implies y is not x or y.
+pub fn implies(x: u8, y: u8) -> u8
+    ensures { λ r. ⌜ r ≡ codeOf (implies3 (valueOf x) (valueOf y)) ⌝ }
+{
+    or(not(x), y)
+}

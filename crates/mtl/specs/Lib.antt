@@ -1,0 +1,2 @@
+-- Metric temporal logic: formulas and their meaning.
+pub mod Syntax

@@ -1,0 +1,2 @@
+-- The numbers and places of the refusals.
+pub mod Numbers

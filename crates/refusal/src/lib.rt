@@ -1,0 +1,63 @@
+// The reasons to turn a call away (01: the table of reasons), each with its number and place.
+ghost use mathlib.Core.Path.{_≡_};
+ghost use Rattle.refusal.specs.Numbers.{numberOf, placeOf};
+
+// A place stands beside each reason that has one; the others have place 0.
+pub enum Refusal {
+    // 1, cut card
+    TruncatedPolicy(usize),
+    // 2, bad heading
+    BadHeading(usize),
+    // 3, bad line
+    BadSubformula(usize),
+    // 4, rule count
+    RuleCount,
+    // 5, wrong tray
+    BufferSize,
+    // 6, spoiled record
+    CorruptKnowledge,
+    // 7, cut slip
+    TruncatedMessage(usize),
+    // 8, bad slip
+    BadMessage,
+    // 9, clash
+    Conflict,
+    // 10, off the sheet
+    OutOfRange,
+}
+
+// The number that a refusal carries.
+pub fn number(r: Refusal) -> u8
+    ensures { λ n. ⌜ n ≡ numberOf r ⌝ }
+{
+    match r {
+        Refusal::TruncatedPolicy(_) => 1,
+        Refusal::BadHeading(_) => 2,
+        Refusal::BadSubformula(_) => 3,
+        Refusal::RuleCount => 4,
+        Refusal::BufferSize => 5,
+        Refusal::CorruptKnowledge => 6,
+        Refusal::TruncatedMessage(_) => 7,
+        Refusal::BadMessage => 8,
+        Refusal::Conflict => 9,
+        Refusal::OutOfRange => 10,
+    }
+}
+
+// The place that a refusal carries.
+pub fn place(r: Refusal) -> usize
+    ensures { λ n. ⌜ n ≡ placeOf r ⌝ }
+{
+    match r {
+        Refusal::TruncatedPolicy(at) => at,
+        Refusal::BadHeading(at) => at,
+        Refusal::BadSubformula(at) => at,
+        Refusal::RuleCount => 0,
+        Refusal::BufferSize => 0,
+        Refusal::CorruptKnowledge => 0,
+        Refusal::TruncatedMessage(at) => at,
+        Refusal::BadMessage => 0,
+        Refusal::Conflict => 0,
+        Refusal::OutOfRange => 0,
+    }
+}
