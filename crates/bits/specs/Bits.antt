@@ -1,0 +1,64 @@
+-- The binary digits of a number. Assumes nothing.
+use Prim.Native.Nat.{ℕ, zero, suc, _+_, _-_, _*_, _/_, _%_, _^_, _≤_, _<_, max}
+use native.Mathlib.Nat.{pow-succ', div-one, div-div-eq-div-mul, div-eq-of-lt, pow-le-pow-right, zero-div}
+use native.Mathlib.Omega.{arith}
+use mathlib.Core.Path.{_≡_, refl, sym, ap, _∙_}
+use mathlib.Core.Bool.{Bool, true, false, _||_}
+use lib.Dec.{eqb}
+use lib.Bits.{bitOr, or-step}
+use borrow.Author.Tests.{eqb-true, eqb-false, eq-eqb, ne-eqb}
+
+-- digit k of n
+unfoldable pub bit : ℕ → ℕ → Bool
+bit n k = eqb (n / 2 ^ k % 2) 1
+
+pub bit-zero : (n : ℕ) → bit n 0 ≡ eqb (n % 2) 1
+unfolding bit
+bit-zero n = ap (λ (x : ℕ). eqb (x % 2) 1) (div-one n)
+
+pub bit-suc : (n k : ℕ) → bit n (suc k) ≡ bit (n / 2) k
+unfolding bit
+bit-suc n k = ap (λ (x : ℕ). eqb (x % 2) 1) (ap (λ (x : ℕ). n / x) (pow-succ' 2 k) ∙ sym (div-div-eq-div-mul n 2 (2 ^ k)))
+
+greater : (x y : ℕ) → x < 2 → y < 2 → eqb (max x y) 1 ≡ (eqb x 1 || eqb y 1)
+greater zero zero h k = refl
+greater zero (suc zero) h k = refl
+greater (suc zero) zero h k = refl
+greater (suc zero) (suc zero) h k = refl
+greater zero (suc (suc y)) h k = absurd (omega arith)
+greater (suc zero) (suc (suc y)) h k = absurd (omega arith)
+greater (suc (suc x)) y h k = absurd (omega arith)
+
+-- a digit of the bitwise disjunction
+pub bit-or : (k a b : ℕ) → bit (bitOr a b) k ≡ (bit a k || bit b k)
+bit-or zero a b =
+    let e : bitOr a b % 2 ≡ max (a % 2) (b % 2) = omega (arith, or-step a b) in
+    rw (bit-zero (bitOr a b), bit-zero a, bit-zero b) (ap (λ (x : ℕ). eqb x 1) e ∙ greater (a % 2) (b % 2) (omega arith) (omega arith))
+bit-or (suc k) a b =
+    let e : bitOr a b / 2 ≡ bitOr (a / 2) (b / 2) = omega (arith, or-step a b) in
+    rw (bit-suc (bitOr a b) k, bit-suc a k, bit-suc b k) (ap (λ (x : ℕ). bit x k) e ∙ bit-or k (a / 2) (b / 2))
+
+same-odd : (x y : ℕ) → eqb (x % 2) 1 ≡ eqb (y % 2) 1 → x % 2 ≡ y % 2
+same-odd x y e = go (eqb (y % 2) 1) refl
+  where
+    go : (b : Bool) → eqb (y % 2) 1 ≡ b → x % 2 ≡ y % 2
+    go true f = omega (arith, eqb-true (x % 2) 1 (e ∙ f), eqb-true (y % 2) 1 f)
+    go false f = let n : (x % 2 ≡ 1 → ⊥) = eqb-false (x % 2) 1 (e ∙ f) in let m : (y % 2 ≡ 1 → ⊥) = eqb-false (y % 2) 1 f in omega arith
+
+-- numbers of n digits with the same digits are the same
+pub bits-same : (n a b : ℕ) → a < 2 ^ n → b < 2 ^ n → ((k : ℕ) → k < n → bit a k ≡ bit b k) → a ≡ b
+bits-same zero a b h k e = omega arith
+bits-same (suc n) a b h k e =
+    let halves : a / 2 ≡ b / 2 = bits-same n (a / 2) (b / 2) (omega arith) (omega arith) (λ i l. sym (bit-suc a i) ∙ e (suc i) (omega arith) ∙ bit-suc b i) in
+    omega (arith, same-odd a b (sym (bit-zero a) ∙ e 0 (omega arith) ∙ bit-zero b))
+
+-- a number of n digits has none beyond
+pub bit-high : (n a : ℕ) → a < 2 ^ n → (k : ℕ) → n ≤ k → bit a k ≡ false
+unfolding bit
+bit-high n a h k l =
+    let p : 2 ^ n ≤ 2 ^ k = pow-le-pow-right (omega arith) l in
+    ap (λ (x : ℕ). eqb (x % 2) 1) (div-eq-of-lt {n = a} {m = 2 ^ k} (omega arith))
+
+pub bit-of-zero : (k : ℕ) → bit 0 k ≡ false
+unfolding bit
+bit-of-zero k = ap (λ (x : ℕ). eqb (x % 2) 1) (zero-div (2 ^ k))

@@ -1,0 +1,6 @@
+-- The binary digits of a number, as numbers (Digits) and as Booleans (Bits), with their laws: values packed at the set places of a map
+-- (Packed), and operations on whole words (Masks).
+pub mod Digits
+pub mod Packed
+pub mod Bits
+pub mod Masks

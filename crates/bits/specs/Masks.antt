@@ -1,0 +1,73 @@
+-- The tests on facts as operations on whole words, as code has them. Assumes nothing.
+use Prim.Native.Nat.{ℕ, zero, suc, _+_, _-_, _*_, _/_, _%_, _^_, _≤_, _<_, min}
+use native.Mathlib.Nat.{one-le-pow, pow-succ'}
+use native.Mathlib.Omega.{arith}
+use native.Mathlib.Decide.{decLt}
+use mathlib.Core.Path.{_≡_, refl, sym, ap, ap₂, _∙_}
+use mathlib.Core.Bool.{Bool, true, false, not, _&&_, _||_, xor, true≢false}
+use mathlib.Core.Logic.{_↔_}
+use lib.Dec.{eqb}
+use lib.Bits.{bitAnd, bitXor, differ, and-step, xor-step}
+use Rattle.bits.specs.Bits.{bit, bit-zero, bit-suc, bit-high, bit-of-zero, bits-same}
+
+lesser : (x y : ℕ) → x < 2 → y < 2 → eqb (min x y) 1 ≡ (eqb x 1 && eqb y 1)
+lesser zero zero h k = refl
+lesser zero (suc zero) h k = refl
+lesser (suc zero) zero h k = refl
+lesser (suc zero) (suc zero) h k = refl
+lesser zero (suc (suc y)) h k = absurd (omega arith)
+lesser (suc zero) (suc (suc y)) h k = absurd (omega arith)
+lesser (suc (suc x)) y h k = absurd (omega arith)
+
+differing : (x y : ℕ) → x < 2 → y < 2 → (differ x y < 2) × (eqb (differ x y) 1 ≡ xor (eqb x 1) (eqb y 1))
+unfolding xor
+differing zero zero h k = (omega arith, refl)
+differing zero (suc zero) h k = (omega arith, refl)
+differing (suc zero) zero h k = (omega arith, refl)
+differing (suc zero) (suc zero) h k = (omega arith, refl)
+differing zero (suc (suc y)) h k = absurd (omega arith)
+differing (suc zero) (suc (suc y)) h k = absurd (omega arith)
+differing (suc (suc x)) y h k = absurd (omega arith)
+
+pub bit-and : (k a b : ℕ) → bit (bitAnd a b) k ≡ (bit a k && bit b k)
+bit-and zero a b =
+    let e : bitAnd a b % 2 ≡ min (a % 2) (b % 2) = omega (arith, and-step a b) in
+    rw (bit-zero (bitAnd a b), bit-zero a, bit-zero b) (ap (λ (x : ℕ). eqb x 1) e ∙ lesser (a % 2) (b % 2) (omega arith) (omega arith))
+bit-and (suc k) a b =
+    let e : bitAnd a b / 2 ≡ bitAnd (a / 2) (b / 2) = omega (arith, and-step a b) in
+    rw (bit-suc (bitAnd a b) k, bit-suc a k, bit-suc b k) (ap (λ (x : ℕ). bit x k) e ∙ bit-and k (a / 2) (b / 2))
+
+pub bit-xor : (k a b : ℕ) → bit (bitXor a b) k ≡ xor (bit a k) (bit b k)
+bit-xor zero a b =
+    let d = differing (a % 2) (b % 2) (omega arith) (omega arith) in
+    let e : bitXor a b % 2 ≡ differ (a % 2) (b % 2) = omega (arith, xor-step a b, d .0) in
+    rw (bit-zero (bitXor a b), bit-zero a, bit-zero b) (ap (λ (x : ℕ). eqb x 1) e ∙ d .1)
+bit-xor (suc k) a b =
+    let d = differing (a % 2) (b % 2) (omega arith) (omega arith) in
+    let e : bitXor a b / 2 ≡ bitXor (a / 2) (b / 2) = omega (arith, xor-step a b, d .0) in
+    rw (bit-suc (bitXor a b) k, bit-suc a k, bit-suc b k) (ap (λ (x : ℕ). bit x k) e ∙ bit-xor k (a / 2) (b / 2))
+
+-- a word is 0 just where it has no digit
+pub no-bits : (w n : ℕ) → n < 2 ^ w → (n ≡ 0) ↔ ((i : ℕ) → i < w → bit n i ≡ false)
+no-bits w n h = (λ e i l. ap (λ (x : ℕ). bit x i) e ∙ bit-of-zero i, λ f. bits-same w n 0 h (one-le-pow w 2 (omega arith)) (λ i l. f i l ∙ sym (bit-of-zero i)))
+
+-- a word has digits below p only, just where it is below 2 ^ p
+pub low-bits : (w p n : ℕ) → n < 2 ^ w → (n < 2 ^ p) ↔ ((i : ℕ) → i < w → bit n i ≡ true → i < p)
+low-bits w p n h = (there, λ f. below w p n h f)
+  where
+    there : n < 2 ^ p → (i : ℕ) → i < w → bit n i ≡ true → i < p
+    there l i k e = go (decLt i p)
+      where
+        go : Dec (i < p) → i < p
+        go (yes d) = d
+        go (no d) = absurd (true≢false (sym e ∙ bit-high p n l i (omega arith)))
+
+    below : (w p n : ℕ) → n < 2 ^ w → ((i : ℕ) → i < w → bit n i ≡ true → i < p) → n < 2 ^ p
+    below w zero n h f = omega (arith, no-bits w n h .1 (λ i l. none i l (bit n i) refl))
+      where
+        none : (i : ℕ) → i < w → (b : Bool) → bit n i ≡ b → bit n i ≡ false
+        none i l true e = absurd (omega (arith, f i l e))
+        none i l false e = e
+    below zero (suc p) n h f = omega (arith, one-le-pow (suc p) 2 (omega arith))
+    below (suc w) (suc p) n h f =
+        omega (arith, below w p (n / 2) (omega arith) (λ i l e. omega (arith, f (suc i) (omega arith) (bit-suc n i ∙ e))))

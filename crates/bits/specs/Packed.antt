@@ -1,0 +1,184 @@
+-- Laws of the bits.
+use mathlib.Core.Path.{_≡_, refl, sym, ap, _∙_, subst}
+use mathlib.Core.Logic.{_⊎_, inl, inr, ⊎-elim}
+use Prim.Native.Nat.{ℕ, zero, suc, _+_, _-_, _*_, _/_, _%_, _^_, _≤_, _<_, zero-le, suc-le-suc}
+use native.Mathlib.Omega.{arith}
+use native.Mathlib.Nat.{div-one, pow-suc, mod-lt, le-of-suc-le-suc, not-suc-le-zero, div-div-eq-div-mul, mul-comm, zero-lt-suc, add-zero, add-suc, zero-mul, mul-zero, one-mul, le-refl, mul-assoc, eq-or-lt-of-le}
+use lib.Count.{ones, ones-step, trailingZeros, under}
+use lib.Pow.{pow-pos}
+use lib.Arith.{lt-one}
+use Rattle.bits.specs.Digits.{digit, below, expanded}
+
+pub digit-low : (n : ℕ) → digit n 0 ≡ n % 2
+unfolding digit
+digit-low n = ap (λ (x : ℕ). x % 2) (div-one n)
+
+pub digit-up : (n k : ℕ) → digit n (suc k) ≡ digit (n / 2) k
+unfolding digit
+digit-up n k = rw (pow-suc, mul-comm (2 ^ k) 2, ← div-div-eq-div-mul n 2 (2 ^ k))
+
+pub digit-lt : (n k : ℕ) → digit n k < 2
+unfolding digit
+digit-lt n k = mod-lt (n / 2 ^ k) (zero-lt-suc 1)
+
+pub digit-zero : (k : ℕ) → digit 0 k ≡ 0
+digit-zero zero = digit-low 0
+digit-zero (suc k) = digit-up 0 k ∙ digit-zero k
+
+-- the count below, from the lowest digit on
+below-step : (k n : ℕ) → below (suc k) n ≡ n % 2 + below k (n / 2)
+unfolding below
+below-step zero n = let e = digit-low n in omega arith
+below-step (suc k) n =
+    let ih : below k n + digit n k ≡ n % 2 + below k (n / 2) = below-step k n in
+    let e = digit-up n k in
+    omega arith
+
+-- a number of k digits has as many set as `count_ones` says
+pub below-ones : (k n : ℕ) → n < 2 ^ k → below k n ≡ ones n
+unfolding below ones
+below-ones zero n h = sym (ap ones (lt-one h))
+below-ones (suc k) n h =
+    let q : n < 2 ^ k * 2 = rw pow-suc at h in
+    let l : n / 2 < 2 ^ k = omega arith in
+    below-step k n ∙ ap (λ (x : ℕ). n % 2 + x) (below-ones k (n / 2) l) ∙ sym (ones-step n)
+
+-- ---- the lowest set digit
+
+-- a number that is not 0 and has at most k digits: below its trailing zeros no digit is set, and there one is
+pub trailing-clear : (k n j : ℕ) → j < trailingZeros k n → digit n j ≡ 0
+unfolding trailingZeros
+trailing-clear zero n j h = absurd (not-suc-le-zero h)
+trailing-clear (suc k) n j h = go (trailing-clear k (n / 2)) (n % 2) refl j h
+  where
+    go : ((i : ℕ) → i < trailingZeros k (n / 2) → digit (n / 2) i ≡ 0) → (d : ℕ) → n % 2 ≡ d → (i : ℕ) → i < under d (trailingZeros k (n / 2)) → digit n i ≡ 0
+    go ih zero e zero l = digit-low n ∙ e
+    go ih zero e (suc i) l = digit-up n i ∙ ih i (le-of-suc-le-suc l)
+    go ih (suc d) e i l = absurd (not-suc-le-zero l)
+
+pub trailing-set : (k n : ℕ) → 0 < n → n < 2 ^ k → (trailingZeros k n < k) × (digit n (trailingZeros k n) ≡ 1)
+unfolding trailingZeros
+trailing-set zero n p h = absurd (let e = lt-one h in omega arith)
+trailing-set (suc k) n p h = go (trailing-set k (n / 2)) (n % 2) refl
+  where
+    go : (0 < n / 2 → n / 2 < 2 ^ k → (trailingZeros k (n / 2) < k) × (digit (n / 2) (trailingZeros k (n / 2)) ≡ 1)) → (d : ℕ) → n % 2 ≡ d → (under d (trailingZeros k (n / 2)) < suc k) × (digit n (under d (trailingZeros k (n / 2))) ≡ 1)
+    go rest zero e =
+        let q : n < 2 ^ k * 2 = rw pow-suc at h in
+        let ih = rest (omega arith) (omega arith) in
+        (suc-le-suc (ih .0), digit-up n (trailingZeros k (n / 2)) ∙ ih .1)
+    go rest (suc d) e = (suc-le-suc zero-le, let b = digit-low n in omega arith)
+
+-- where a digit is set, the number is at least its weight
+pub digit-le : (k n : ℕ) → digit n k ≡ 1 → 2 ^ k ≤ n
+digit-le zero n e = let b = digit-low n in omega arith
+digit-le (suc k) n e =
+    let ih = digit-le k (n / 2) (sym (digit-up n k) ∙ e) in
+    rw pow-suc (omega arith)
+
+-- a set digit's weight taken off: that digit is clear, and the others are as they were
+pub cleared : (k n : ℕ) → digit n k ≡ 1 → digit (n - 2 ^ k) k ≡ 0
+cleared zero n e =
+    let b = digit-low n in
+    let d = digit-low (n - 1) in
+    omega arith
+cleared (suc k) n e =
+    let q : digit (n / 2) k ≡ 1 = sym (digit-up n k) ∙ e in
+    let l = digit-le k (n / 2) q in
+    let s : (n - 2 ^ k * 2) / 2 ≡ n / 2 - 2 ^ k = omega arith in
+    rw pow-suc (digit-up (n - 2 ^ k * 2) k ∙ ap (λ (x : ℕ). digit x k) s ∙ cleared k (n / 2) q)
+
+pub others : (k n j : ℕ) → digit n k ≡ 1 → (j ≡ k → ⊥) → digit (n - 2 ^ k) j ≡ digit n j
+others zero n zero e h = absurd (h refl)
+others zero n (suc j) e h =
+    let b = digit-low n in
+    let s : (n - 1) / 2 ≡ n / 2 = omega arith in
+    digit-up (n - 1) j ∙ ap (λ (x : ℕ). digit x j) s ∙ sym (digit-up n j)
+others (suc k) n j e h = go (λ i g. others k (n / 2) i (sym (digit-up n k) ∙ e) g) j h
+  where
+    q : digit (n / 2) k ≡ 1
+    q = sym (digit-up n k) ∙ e
+
+    go : ((i : ℕ) → (i ≡ k → ⊥) → digit (n / 2 - 2 ^ k) i ≡ digit (n / 2) i) → (i : ℕ) → (i ≡ suc k → ⊥) → digit (n - 2 ^ suc k) i ≡ digit n i
+    go ih zero g =
+        let l = digit-le k (n / 2) q in
+        let s : (n - 2 ^ k * 2) % 2 ≡ n % 2 = omega arith in
+        rw pow-suc (digit-low (n - 2 ^ k * 2) ∙ s ∙ sym (digit-low n))
+    go ih (suc i) g =
+        let l = digit-le k (n / 2) q in
+        let s : (n - 2 ^ k * 2) / 2 ≡ n / 2 - 2 ^ k = omega arith in
+        rw pow-suc (digit-up (n - 2 ^ k * 2) i ∙ ap (λ (x : ℕ). digit x i) s ∙ ih i (λ r. g (ap suc r)) ∙ sym (digit-up n i))
+
+-- ---- what the map's clear places do
+
+-- over d clear places neither the count nor the expanded bits change
+pub skip : (p d map v : ℕ) → ((j : ℕ) → j < d → digit map (p + j) ≡ 0) → (below (p + d) map ≡ below p map) × (expanded (p + d) map v ≡ expanded p map v)
+unfolding below expanded
+skip p zero map v h = (ap (λ (x : ℕ). below x map) (add-zero p), ap (λ (x : ℕ). expanded x map v) (add-zero p))
+skip p (suc d) map v h =
+    let ih = skip p d map v (λ j l. h j (omega arith)) in
+    let b : digit map (p + d) ≡ 0 = h d (omega arith) in
+    let z : 0 * digit v (below (p + d) map) * 2 ^ (p + d) ≡ 0 = rw (zero-mul, zero-mul) in
+    rw (add-suc, b) (omega arith, rw z (omega arith))
+
+two : (x : ℕ) → x < 2 → (x ≡ 0) ⊎ (x ≡ 1)
+two zero h = inl refl
+two (suc zero) h = inr refl
+two (suc (suc x)) h = absurd (omega arith)
+
+-- the bits below place k make a number of k digits
+pub expanded-lt : (k map v : ℕ) → expanded k map v < 2 ^ k
+unfolding expanded
+expanded-lt zero map v = suc-le-suc zero-le
+expanded-lt (suc k) map v =
+    let ih = expanded-lt k map v in
+    let b = digit map k in
+    let x = digit v (below k map) in
+    let le : b * x * 2 ^ k ≤ 2 ^ k = ⊎-elim
+    (λ (e : b ≡ 0). rw (e, zero-mul, zero-mul) zero-le)
+    (λ (e : b ≡ 1). ⊎-elim (λ (f : x ≡ 0). rw (e, f, mul-zero, zero-mul) zero-le) (λ (f : x ≡ 1). rw (e, f, one-mul) (le-refl _)) (two x (digit-lt v (below k map))))
+    (two b (digit-lt map k)) in
+    rw pow-suc (omega arith)
+
+-- ---- the result's bits, one by one
+
+shifted : (b m : ℕ) → b * 2 ^ suc m ≡ b * 2 ^ m * 2
+shifted b m = rw pow-suc (sym (mul-assoc b (2 ^ m) 2))
+
+pub digit-under : (k n x b : ℕ) → k < n → digit (x + b * 2 ^ n) k ≡ digit x k
+digit-under k zero x b h = absurd (not-suc-le-zero h)
+digit-under zero (suc n) x b h =
+    let s : (x + b * 2 ^ n * 2) % 2 ≡ x % 2 = omega arith in
+    rw (shifted b n) (digit-low (x + b * 2 ^ n * 2) ∙ s ∙ sym (digit-low x))
+digit-under (suc k) (suc n) x b h =
+    let s : (x + b * 2 ^ n * 2) / 2 ≡ x / 2 + b * 2 ^ n = omega arith in
+    rw (shifted b n)
+    (digit-up (x + b * 2 ^ n * 2) k ∙ ap (λ (y : ℕ). digit y k) s ∙ digit-under k n (x / 2) b (le-of-suc-le-suc h) ∙ sym (digit-up x k))
+
+pub digit-top : (n x b : ℕ) → x < 2 ^ n → b < 2 → digit (x + b * 2 ^ n) n ≡ b
+digit-top zero x b h l =
+    let z = lt-one h in
+    let e = digit-low (x + b * 1) in
+    omega arith
+digit-top (suc n) x b h l =
+    let q : x < 2 ^ n * 2 = rw pow-suc at h in
+    let s : (x + b * 2 ^ n * 2) / 2 ≡ x / 2 + b * 2 ^ n = omega arith in
+    rw (shifted b n) (digit-up (x + b * 2 ^ n * 2) n ∙ ap (λ (y : ℕ). digit y n) s ∙ digit-top n (x / 2) b (omega arith) l)
+
+both : (b x : ℕ) → b < 2 → x < 2 → b * x < 2
+both b x h l =
+    ⊎-elim (λ (e : b ≡ 0). rw (e, zero-mul) (omega arith)) (λ (e : b ≡ 1). rw (e, one-mul) l) (two b h)
+
+-- digit k of the expanded values: where the map has place k, the packed digit whose number is how many places it has below k; else 0
+pub expanded-bit : (n k map v : ℕ) → k < n → digit (expanded n map v) k ≡ digit map k * digit v (below k map)
+unfolding expanded
+expanded-bit zero k map v h = absurd (not-suc-le-zero h)
+expanded-bit (suc n) k map v h =
+    ⊎-elim
+    (λ (e : k ≡ n). rw e (digit-top n (expanded n map v) (digit map n * digit v (below n map)) (expanded-lt n map v) (both _ _ (digit-lt map n) (digit-lt v (below n map)))))
+    (λ (l : k < n). digit-under k n (expanded n map v) (digit map n * digit v (below n map)) l ∙ expanded-bit n k map v l)
+    (eq-or-lt-of-le (le-of-suc-le-suc h))
+
+-- places 1, 4, 5 and 7 take the packed bits 1, 0, 1 and 1
+worked : expanded 32 0b10110010 0b1101 ≡ 162
+unfolding expanded digit below
+worked = refl

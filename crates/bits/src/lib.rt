@@ -1,0 +1,1 @@
+// The binary digits of a number: definitions and laws only.

@@ -1,0 +1,125 @@
+-- 01, "The slip", as functions of the bytes. Each definition opens with its sentence.
+use Prim.Native.Nat.{ℕ, _+_, _/_, _^_}
+use mathlib.Core.Bool.{Bool, true, false, cond, _&&_}
+use mathlib.Core.List.{List}
+use lib.Dec.{eqb, ltb, leb}
+use lib.ListN.{getD, length}
+use Rattle.bits.specs.Digits.{below, expanded}
+use Rattle.encoding.specs.Fields.{has, size, longOf, field8, field16, field32, written}
+use Rattle.refusal.specs.declared.Refusal.{Refusal}
+use Rattle.refusal.specs.declared.Refusal.the-variants.{TruncatedMessage, BadMessage}
+use Rattle.policy.specs.declared.Sizes.{Sizes}
+use Rattle.policy.specs.declared.Answer.{Answer}
+use Rattle.policy.specs.declared.Answer.the-variants.{Accepted, Refused}
+use Rattle.policy.specs.Format.{check}
+use Rattle.message.specs.declared.Event.{Event}
+use Rattle.message.specs.declared.Event.the-variants.{Observation, Alive}
+use Rattle.message.specs.declared.Decoded.{Decoded}
+use Rattle.message.specs.declared.Length.{Length}
+use Rattle.message.specs.declared.Length.the-variants.{Whole, EndsEarly}
+
+-- ---- the fields
+
+abbrev pub mapOf : List ℕ → ℕ
+mapOf s = getD s 0 0
+
+-- "A bit map, then fields: bit 0 station (1 byte), bit 1 minute (2), bit 2 count (2), bit 3 mark map (4) followed by its values":
+-- where each of them starts
+abbrev pub minuteAt : ℕ → ℕ
+minuteAt map = 1 + size (has map 0) 1
+
+abbrev pub numberAt : ℕ → ℕ
+numberAt map = minuteAt map + size (has map 1) 2
+
+abbrev pub namedAt : ℕ → ℕ
+namedAt map = numberAt map + size (has map 2) 2
+
+abbrev pub valuesAt : ℕ → ℕ
+valuesAt map = namedAt map + size (has map 3) 4
+
+unfoldable pub componentOf : List ℕ → ℕ
+componentOf s = field8 s (has (mapOf s) 0) 1
+
+unfoldable pub minuteOf : List ℕ → ℕ
+minuteOf s = field16 s (has (mapOf s) 1) (minuteAt (mapOf s))
+
+unfoldable pub numberOf : List ℕ → ℕ
+numberOf s = field16 s (has (mapOf s) 2) (numberAt (mapOf s))
+
+-- "The mark map's bit k names mark k"
+unfoldable pub namedOf : List ℕ → ℕ
+namedOf s = field32 s (has (mapOf s) 3) (namedAt (mapOf s))
+
+-- "If n marks are named, the values are n/8 bytes rounded up"
+abbrev pub valueBytes : ℕ → ℕ
+valueBytes named = (below 32 named + 7) / 8
+
+-- the value bytes as one number, the first byte lowest
+abbrev pub packedAt : List ℕ → ℕ → ℕ → ℕ
+packedAt s n at = longOf (field8 s (ltb 0 n) at) (field8 s (ltb 1 n) (at + 1)) (field8 s (ltb 2 n) (at + 2)) (field8 s (ltb 3 n) (at + 3))
+
+unfoldable pub packedOf : List ℕ → ℕ
+packedOf s = packedAt s (valueBytes (namedOf s)) (valuesAt (mapOf s))
+
+-- "Value bit j (from the lowest bit of the first byte) belongs to the j-th named mark, lowest first": the values at the marks' own bits
+unfoldable pub valuesOf : List ℕ → ℕ
+valuesOf s = expanded 32 (namedOf s) (packedOf s)
+
+-- ---- the length
+
+-- Bits 4 to 7 never change it. Bytes past the end read as 0, so where the map or the mark map is cut this is more than there are
+unfoldable pub lengthOf : List ℕ → ℕ
+lengthOf s = valuesAt (mapOf s) + valueBytes (namedOf s)
+
+unfoldable pub measured : List ℕ → Length
+measured s = cond (leb (lengthOf s) (length s)) (Whole (lengthOf s)) EndsEarly
+
+-- ---- the rules
+
+-- "An alive slip at minute t (at most M) .. names no marks"
+unfoldable pub goodAlive : Sizes → List ℕ → Bool
+goodAlive z s = eqb (namedOf s) 0 && leb (minuteOf s) (z .minutes)
+
+-- "An observation at minute t (below M) with count s, at least 1"; it names marks of the card, and "spare bits are 0"
+unfoldable pub goodObservation : Sizes → List ℕ → Bool
+goodObservation z s =
+    ltb (minuteOf s) (z .minutes)
+    && (leb 1 (numberOf s)
+    && (ltb (namedOf s) (2 ^ z .propositions)
+    && ltb (packedOf s) (2 ^ below 32 (namedOf s))))
+
+-- "Bits 5 to 7 are 0." "A written field is not 0; the value bytes are exempt." A station of the card. "Bit 4 makes it an alive slip"
+unfoldable pub goodMessage : Sizes → List ℕ → Bool
+goodMessage z s =
+    ltb (mapOf s) 32
+    && (written (has (mapOf s) 0) (componentOf s)
+    && (written (has (mapOf s) 1) (minuteOf s)
+    && (written (has (mapOf s) 2) (numberOf s)
+    && (written (has (mapOf s) 3) (namedOf s)
+    && (ltb (componentOf s) (z .components)
+    && cond (has (mapOf s) 4) (goodAlive z s) (goodObservation z s))))))
+
+-- ---- the answer
+
+-- 7 where it ends early, at its length, or where bytes follow, at the first of them; then 8
+unfoldable pub answerOf : Sizes → List ℕ → Answer
+answerOf z s =
+    check (leb (lengthOf s) (length s)) (TruncatedMessage (length s))
+    (check (eqb (lengthOf s) (length s)) (TruncatedMessage (lengthOf s))
+    (check (goodMessage z s) BadMessage
+    Accepted))
+
+-- "A slip read is either an observation or an alive"
+unfoldable pub eventOf : List ℕ → Event
+eventOf s =
+    cond (has (mapOf s) 4)
+    (Alive (minuteOf s) (numberOf s))
+    (Observation (minuteOf s) (numberOf s) (namedOf s) (valuesOf s))
+
+-- ".. inside one answer that also holds its station"
+abbrev pub withAnswer : Answer → List ℕ → Decoded
+withAnswer Accepted s = record { answer = Accepted; component = componentOf s; event = eventOf s }
+withAnswer (Refused r) s = record { answer = Refused r; component = 0; event = Alive 0 0 }
+
+unfoldable pub decodeOf : Sizes → List ℕ → Decoded
+decodeOf z s = withAnswer (answerOf z s) s

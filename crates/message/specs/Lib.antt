@@ -1,0 +1,4 @@
+-- The message: its format, what it fixes, and the laws of what is read.
+pub mod Format
+pub mod Fixes
+pub mod Proper
