@@ -1,2 +1,10 @@
 -- Metric temporal logic: formulas and their meaning.
 pub mod Syntax
+pub mod Algebra
+pub mod Reading
+pub mod Folds
+pub mod Related
+pub mod Unroll
+pub mod Knowing
+pub mod Textbook
+pub mod Pins

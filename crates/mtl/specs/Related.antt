@@ -1,0 +1,74 @@
+-- One theorem: where a relation between the values of two algebras is kept by true, false, not and or, related worlds have related
+-- readings. By induction on the depth of the reading, and in it over the folds.
+use Prim.Native.Nat.{ℕ, zero, suc, _+_}
+use Rattle.mtl.specs.declared.Formula.{Formula}
+use Rattle.mtl.specs.declared.Formula.the-variants.{True, Proposition, Not, Or, Since, Until}
+use Rattle.mtl.specs.Algebra.{Algebra, fold, meet}
+use Rattle.mtl.specs.Syntax.{Operands}
+use Rattle.mtl.specs.Reading.{World, since-start, since-count, after-start, after-count, until-start, until-count, before-start, before-count, seen, point, meets, keeps, since, until, meaning, deep, reading}
+
+-- R is kept by the operations of the two algebras
+pub record Kept {A B : Type 0} (R : A → B → Type 0) (a : Algebra A) (b : Algebra B) : Type 0 where
+  pub top : R (a .top) (b .top)
+  pub bottom : R (a .bottom) (b .bottom)
+  pub neg : {x : A} {y : B} → R x y → R (a .neg x) (b .neg y)
+  pub join : {x : A} {y : B} {x′ : A} {y′ : B} → R x y → R x′ y′ → R (a .join x x′) (b .join y y′)
+
+-- the two worlds are related minute by minute, and so is what their windows show of related values
+pub record Alike {A B : Type 0} (R : A → B → Type 0) (v : World A) (w : World B) : Type 0 where
+  pub time-point : (t : ℕ) → R (v .time-point t) (w .time-point t)
+  pub proposition : (p t : ℕ) → R (v .proposition p t) (w .proposition p t)
+  pub shown : (t : ℕ) {x : A} {y : B} → R x y → R (seen v t x) (seen w t y)
+
+pub operands-map : (φ : Formula) {P Q : ℕ → Type 0} → ((i : ℕ) → P i → Q i) → Operands P φ → Operands Q φ
+operands-map True f h = tt
+operands-map (Proposition p) f h = tt
+operands-map (Not i) f h = f i h
+operands-map (Or i j) f h = (f i (h .0), f j (h .1))
+operands-map (Since i j lower upper) f h = (f i (h .0), f j (h .1))
+operands-map (Until i j lower upper) f h = (f i (h .0), f j (h .1))
+
+pub operands-all : (φ : Formula) {P : ℕ → Type 0} → ((i : ℕ) → P i) → Operands P φ
+operands-all True f = tt
+operands-all (Proposition p) f = tt
+operands-all (Not i) f = f i
+operands-all (Or i j) f = (f i, f j)
+operands-all (Since i j lower upper) f = (f i, f j)
+operands-all (Until i j lower upper) f = (f i, f j)
+
+module _ {A B : Type 0} (R : A → B → Type 0) (a : Algebra A) (b : Algebra B) (k : Kept R a b) where
+  meet-kept : {x : A} {y : B} {x′ : A} {y′ : B} → R x y → R x′ y′ → R (meet a x x′) (meet b y y′)
+  meet-kept h h′ = k .neg (k .join (k .neg h) (k .neg h′))
+
+  fold-kept : (f : A → A → A) (g : B → B → B) → ((x : A) (y : B) (x′ : A) (y′ : B) → R x y → R x′ y′ → R (f x x′) (g y y′))
+      → {u : A} {v : B} → R u v → (lo n : ℕ) {p : ℕ → A} {q : ℕ → B} → ((i : ℕ) → R (p i) (q i)) → R (fold f u lo n p) (fold g v lo n q)
+  fold-kept f g j z lo zero h = z
+  fold-kept f g j z lo (suc n) h = j _ _ _ _ (fold-kept f g j z lo n h) (h (lo + n))
+
+  module _ (v : World A) (w : World B) (s : Alike R v w) where
+    point-kept : (t : ℕ) → R (point a v t) (point b w t)
+    point-kept t = s .shown t (s .time-point t)
+
+    met-kept : {α α′ : ℕ → A} {β β′ : ℕ → B} → ((t : ℕ) → R (α t) (β t)) → ((t : ℕ) → R (α′ t) (β′ t)) → (j lo n : ℕ)
+        → R (meet a (meets a v α′ j) (keeps a v α lo n)) (meet b (meets b w β′ j) (keeps b w β lo n))
+    met-kept h h′ j lo n =
+        meet-kept (meet-kept (point-kept j) (h′ j)) (fold-kept _ _ (λ x y x′ y′. meet-kept) (k .top) lo n (λ i. k .join (k .neg (point-kept i)) (h i)))
+
+    -- a subformula's value, from related values of those that it names
+    pub meaning-kept : (p : ℕ → ℕ → A) (q : ℕ → ℕ → B) (φ : Formula) → Operands (λ i. (t : ℕ) → R (p i t) (q i t)) φ → (t : ℕ) → R (meaning a v p φ t) (meaning b w q φ t)
+    unfolding since until
+    meaning-kept p q True h t = k .top
+    meaning-kept p q (Proposition m) h t = s .proposition m t
+    meaning-kept p q (Not i) h t = k .neg (h t)
+    meaning-kept p q (Or i j) h t = k .join (h .0 t) (h .1 t)
+    meaning-kept p q (Since i j lower upper) h t = fold-kept _ _ (λ x y x′ y′. k .join) (k .bottom) (since-start upper t) (since-count lower upper t) (λ m. met-kept (h .0) (h .1) m (after-start m) (after-count m t))
+    meaning-kept p q (Until i j lower upper) h t = fold-kept _ _ (λ x y x′ y′. k .join) (k .bottom) (until-start lower t) (until-count lower upper) (λ m. met-kept (h .0) (h .1) m (before-start t) (before-count m t))
+
+    deep-kept : (line : ℕ → Formula) (d i t : ℕ) → R (deep a v line d i t) (deep b w line d i t)
+    unfolding deep
+    deep-kept line zero i t = k .bottom
+    deep-kept line (suc d) i t = s .shown t (meaning-kept _ _ (line i) (operands-all (line i) (deep-kept line d)) t)
+
+    pub reading-kept : (line : ℕ → Formula) (i t : ℕ) → R (reading a v line i t) (reading b w line i t)
+    unfolding reading
+    reading-kept line i t = deep-kept line (suc i) i t
