@@ -1,0 +1,3 @@
+-- The knowledge and the traces that agree with it.
+pub mod Trace
+pub mod Knowledge

@@ -1,0 +1,1 @@
+// The knowledge (01: the record): known sequence numbers and facts.

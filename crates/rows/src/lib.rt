@@ -1,0 +1,1 @@
+// Rows of cells: definitions and laws only.

@@ -1,0 +1,2 @@
+-- The two sheets.
+pub mod Sheets
