@@ -2,3 +2,4 @@
 pub mod Format
 pub mod Fixes
 pub mod Proper
+pub mod Laws
