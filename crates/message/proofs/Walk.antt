@@ -1,16 +1,16 @@
 -- The walk over a map's set places, lowest first. Assumes nothing.
-use mathlib.Core.Path.{_≡_, refl, sym, ap, _∙_, subst}
-use mathlib.Core.Logic.{_⊎_, inl, inr, ⊎-elim}
-use Prim.Native.Nat.{ℕ, zero, suc, _+_, _-_, _*_, _/_, _%_, _^_, _≤_, _<_, zero-le}
+use mathlib.Core.Path.{_≡_, refl, sym, ap, _∙_}
+use mathlib.Core.Logic.{⊎-elim}
+use Prim.Native.Nat.{ℕ, suc, _+_, _-_, _*_, _/_, _%_, _^_, _≤_, _<_, zero-le}
 use native.Mathlib.Omega.{arith}
 use native.Mathlib.Nat.{pow-suc, div-one, div-div-eq-div-mul, one-mul, le-of-suc-le-suc, eq-or-lt-of-le, lt-of-lt-of-le}
 use native.Mathlib.Numerals.{add-one}
 use native.Mathlib.Decide.{decLt}
 use lib.Count.{trailingZeros}
 use lib.Dec.{lit<}
-use lib.Pow.{pow-mono, shl-exact}
+use lib.Pow.{pow-mono, pow-pos, shl-exact}
 use Rattle.bits.specs.Digits.{digit, below, expanded}
-use Rattle.bits.specs.Packed.{trailing-clear, trailing-set, cleared, others, skip, expanded-lt, digit-zero}
+use Rattle.bits.specs.Packed.{trailing-clear, trailing-set, cleared, others, skip, expanded-lt, digit-zero, digit-le}
 
 -- the weight of a place, as code shifts it
 pub weight : (t : ℕ) → t < 32 → 1 * 2 ^ t % 2 ^ 32 ≡ 2 ^ t
@@ -29,7 +29,16 @@ pub begin : (map packed : ℕ) → Walked map packed map packed 0
 unfolding below expanded
 begin map packed = record { place = 0; within = zero-le; low = λ j l. omega arith; high = λ j l. refl; values = sym (div-one packed); made = refl }
 
-module _ (map packed rest left out : ℕ) (at : Walked map packed rest left out) where
+-- one turn takes the lowest place left; its weight is as code shifts it
+pub record Turn (map packed rest left out weight : ℕ) : Type 0 where
+  pub place-in : trailingZeros 32 rest < 32
+  pub weight-some : 0 < weight
+  pub weight-in : weight ≤ rest
+  pub fits : out + left % 2 * weight < 2 ^ 32
+  pub next : Walked map packed (rest - weight) (left / 2) (out + left % 2 * weight)
+
+module _ {map packed rest left out : ℕ} (at : Walked map packed rest left out) where
+  -- no place is left, so the values that are placed are all
   pub finish : rest ≡ 0 → out ≡ expanded 32 map packed
   finish e =
       let d = 32 - at .place in
@@ -38,13 +47,10 @@ module _ (map packed rest left out : ℕ) (at : Walked map packed rest left out)
       at .made ∙ sym (k .1) ∙ ap (λ (x : ℕ). expanded x map packed) s
 
   module _ (p : 0 < rest) (h : rest < 2 ^ 32) where
-    t : ℕ
-    t = trailingZeros 32 rest
-
-    pub t-lt : trailingZeros 32 rest < 32
+    t-lt : trailingZeros 32 rest < 32
     t-lt = trailing-set 32 rest p h .0
 
-    pub t-set : digit rest (trailingZeros 32 rest) ≡ 1
+    t-set : digit rest (trailingZeros 32 rest) ≡ 1
     t-set = trailing-set 32 rest p h .1
 
     past : at .place ≤ trailingZeros 32 rest
@@ -70,10 +76,10 @@ module _ (map packed rest left out : ℕ) (at : Walked map packed rest left out)
         let m : out ≡ expanded (trailingZeros 32 rest) map packed = at .made ∙ sym (kept .1) in
         rw (m, ← b, map-set, one-mul)
 
-    pub fits : out + left % 2 * 2 ^ trailingZeros 32 rest < 2 ^ 32
-    fits = rw made-more (lt-of-lt-of-le (expanded-lt (suc (trailingZeros 32 rest)) map packed) (pow-mono t-lt))
+    fits-in : out + left % 2 * 2 ^ trailingZeros 32 rest < 2 ^ 32
+    fits-in = rw made-more (lt-of-lt-of-le (expanded-lt (suc (trailingZeros 32 rest)) map packed) (pow-mono t-lt))
 
-    pub step : Walked map packed (rest - 2 ^ trailingZeros 32 rest) (left / 2) (out + left % 2 * 2 ^ trailingZeros 32 rest)
+    step : Walked map packed (rest - 2 ^ trailingZeros 32 rest) (left / 2) (out + left % 2 * 2 ^ trailingZeros 32 rest)
     unfolding below
     step = record {
       place = suc (trailingZeros 32 rest);
@@ -86,3 +92,14 @@ module _ (map packed rest left out : ℕ) (at : Walked map packed rest left out)
       values = ap (λ (x : ℕ). x / 2) (at .values) ∙ div-div-eq-div-mul packed (2 ^ below (at .place) map) 2 ∙ rw (map-set, kept .0, add-one, pow-suc);
       made = made-more;
     }
+
+    pub turn : Turn map packed rest left out (1 * 2 ^ trailingZeros 32 rest % 2 ^ 32)
+    turn =
+        rw (weight (trailingZeros 32 rest) t-lt)
+        (record {
+          place-in = t-lt;
+          weight-some = pow-pos (trailingZeros 32 rest);
+          weight-in = digit-le (trailingZeros 32 rest) rest t-set;
+          fits = fits-in;
+          next = step;
+        })

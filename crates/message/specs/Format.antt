@@ -1,6 +1,6 @@
 -- 01, "The slip", as functions of the bytes. Each definition opens with its sentence.
 use Prim.Native.Nat.{ℕ, _+_, _/_, _^_}
-use mathlib.Core.Bool.{Bool, true, false, cond, _&&_}
+use mathlib.Core.Bool.{Bool, cond, _&&_}
 use mathlib.Core.List.{List}
 use lib.Dec.{eqb, ltb, leb}
 use lib.ListN.{getD, length}

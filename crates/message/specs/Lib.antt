@@ -3,3 +3,4 @@ pub mod Format
 pub mod Fixes
 pub mod Proper
 pub mod Laws
+pub mod Examples

@@ -5,7 +5,7 @@ use native.Mathlib.Omega.{arith}
 use borrow.Author.Tests.{not-true, not-false}
 use Rattle.refusal.specs.declared.Refusal.the-variants.{TruncatedMessage}
 use Rattle.message.specs.Format.{goodFields, refusedWith}
-use Rattle.message.specs.Laws.{early, extra, bad, good, decodes}
+use Rattle.message.specs.Laws.{short, long, bad, good, decodes}
 use Rattle.message.proofs.Reading.{Told, told, accepted}
 use borrow.Author.Needs.{needs}
 use Rattle.message.proofs.decode.Statement.{statement}
@@ -30,7 +30,7 @@ returns : tie.Need-returns
 returns c =
     let s = c .before .before .before .before .before .before .before .args .s .now in
     let t = subst (Told s) (sym (c .before .before .before .before .before .measure .ensures) ∙ c .before .before .before .whole .given .1) (told s) in
-    c .refused2 .ensures ∙ ap (λ (n : ℕ). refusedWith (TruncatedMessage n)) (t .0) ∙ sym (decodes (extra (omega arith)))
+    c .refused2 .ensures ∙ ap (λ (n : ℕ). refusedWith (TruncatedMessage n)) (t .0) ∙ sym (decodes (long (omega arith)))
 
 fields-of-requires : tie.Need-fields-of-requires
 fields-of-requires c κs =
@@ -60,7 +60,7 @@ returns-3 : tie.Need-returns-3
 returns-3 c =
     let s = c .before .before .before .before .before .args .s .now in
     let t = subst (Told s) (sym (c .before .before .before .measure .ensures) ∙ c .before .enum-told .given .1) (told s) in
-    c .refused .ensures ∙ sym (decodes (early t))
+    c .refused .ensures ∙ sym (decodes (short t))
 
 returns-4 : tie.Need-returns-4
 returns-4 c =

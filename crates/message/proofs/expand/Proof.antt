@@ -1,10 +1,7 @@
 -- Each turn places the next packed bit at the lowest named place left (`Walk`), so what is left of the map falls to 0. Assumes nothing.
-use lib.Pow.{pow-pos}
-use Rattle.bits.specs.Packed.{digit-le}
 use Prim.Native.Nat.{_^_, _<_}
 use native.Mathlib.Omega.{arith}
-use lib.Count.{trailingZeros}
-use Rattle.message.proofs.Walk.{weight, Walked, begin, finish, step, fits, t-lt, t-set}
+use Rattle.message.proofs.Walk.{Walked, begin, turn, finish}
 use Rattle.message.proofs.expand.Statement.{statement}
 use Rattle.message.proofs.expand.Tie as tie
 
@@ -18,69 +15,25 @@ loop-holds : tie.Need-loop-holds Inv-loop μ-loop
 loop-holds c = (c .fits .named .fits, begin (c .args .named) (c .args .packed))
 
 shl-weight : tie.Need-shl-weight Inv-loop μ-loop
-shl-weight c =
-    let l = c .before .loop in
-    let a = c .before .before .args in
-    let p : 0 < l .rest = omega arith in
-    let h : l .rest < 2 ^ 32 = l .inv .0 in
-    let tl = t-lt (a .named) (a .packed) (l .rest) (l .left) (l .out) (l .inv .1) p h in
-    let w = weight (trailingZeros 32 (l .rest)) tl in
-    tl
+shl-weight c = let l = c .before .loop in let t = turn (l .inv .1) (omega arith) (l .inv .0) in t .place-in
 
 mul-out : tie.Need-mul-out Inv-loop μ-loop
-mul-out c =
-    let l = c .before .loop in
-    let a = c .before .before .args in
-    let p : 0 < l .rest = omega arith in
-    let h : l .rest < 2 ^ 32 = l .inv .0 in
-    let tl = t-lt (a .named) (a .packed) (l .rest) (l .left) (l .out) (l .inv .1) p h in
-    let w = weight (trailingZeros 32 (l .rest)) tl in
-    let f = fits (a .named) (a .packed) (l .rest) (l .left) (l .out) (l .inv .1) p h in
-    record { fits = rw w (omega arith) }
+mul-out c = let l = c .before .loop in let t = turn (l .inv .1) (omega arith) (l .inv .0) in record { fits = omega (arith, t .fits) }
 
 add-out : tie.Need-add-out Inv-loop μ-loop
-add-out c =
-    let l = c .before .loop in
-    let a = c .before .before .args in
-    let p : 0 < l .rest = omega arith in
-    let h : l .rest < 2 ^ 32 = l .inv .0 in
-    let tl = t-lt (a .named) (a .packed) (l .rest) (l .left) (l .out) (l .inv .1) p h in
-    let w = weight (trailingZeros 32 (l .rest)) tl in
-    record { fits = rw w (fits (a .named) (a .packed) (l .rest) (l .left) (l .out) (l .inv .1) p h) }
+add-out c = let l = c .before .loop in let t = turn (l .inv .1) (omega arith) (l .inv .0) in record { fits = t .fits }
 
 sub-rest : tie.Need-sub-rest Inv-loop μ-loop
-sub-rest c =
-    let l = c .before .loop in
-    let a = c .before .before .args in
-    let p : 0 < l .rest = omega arith in
-    let h : l .rest < 2 ^ 32 = l .inv .0 in
-    let tl = t-lt (a .named) (a .packed) (l .rest) (l .left) (l .out) (l .inv .1) p h in
-    let w = weight (trailingZeros 32 (l .rest)) tl in
-    rw w (digit-le (trailingZeros 32 (l .rest)) (l .rest) (t-set (a .named) (a .packed) (l .rest) (l .left) (l .out) (l .inv .1) p h))
+sub-rest c = let l = c .before .loop in let t = turn (l .inv .1) (omega arith) (l .inv .0) in t .weight-in
 
 loop-less : tie.Need-loop-less Inv-loop μ-loop
-loop-less c =
-    let l = c .before .loop in
-    let a = c .before .before .args in
-    let p : 0 < l .rest = omega arith in
-    let h : l .rest < 2 ^ 32 = l .inv .0 in
-    let tl = t-lt (a .named) (a .packed) (l .rest) (l .left) (l .out) (l .inv .1) p h in
-    let w = weight (trailingZeros 32 (l .rest)) tl in
-    let z = pow-pos (trailingZeros 32 (l .rest)) in
-    rw w (omega arith)
+loop-less c = let l = c .before .loop in let t = turn (l .inv .1) (omega arith) (l .inv .0) in omega (arith, t .weight-some, t .weight-in)
 
 loop-again : tie.Need-loop-again Inv-loop μ-loop
-loop-again c =
-    let l = c .before .loop in
-    let a = c .before .before .args in
-    let p : 0 < l .rest = omega arith in
-    let h : l .rest < 2 ^ 32 = l .inv .0 in
-    let tl = t-lt (a .named) (a .packed) (l .rest) (l .left) (l .out) (l .inv .1) p h in
-    let w = weight (trailingZeros 32 (l .rest)) tl in
-    rw w (omega arith, step (a .named) (a .packed) (l .rest) (l .left) (l .out) (l .inv .1) p h)
+loop-again c = let l = c .before .loop in let t = turn (l .inv .1) (omega arith) (l .inv .0) in (omega (arith, l .inv .0), t .next)
 
 returns : tie.Need-returns Inv-loop μ-loop
-returns c = let l = c .before .loop in finish (c .before .before .args .named) (c .before .before .args .packed) (l .rest) (l .left) (l .out) (l .inv .1) (c .loop-test .left)
+returns c = finish (c .before .loop .inv .1) (c .loop-test .left)
 
 pub expand-spec : {M : Type 1} → statement M
 expand-spec =
