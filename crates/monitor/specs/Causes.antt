@@ -15,7 +15,7 @@ use Rattle.policy.specs.declared.Sizes.{Sizes}
 use Rattle.policy.specs.declared.Policy.{Policy}
 use Rattle.policy.specs.declared.Answer.{Answer as Checked}
 use Rattle.policy.specs.declared.Answer.the-variants as C
-use Rattle.policy.specs.Format.{check, andThen, within, fieldsAt, goodLine, offset, rulesUpTo, headingAnswer, lineAnswer, linesAnswer, countOf, answerOf as policy-answer, policyOf}
+use Rattle.policy.specs.Format.{check, andThen, within, fieldsAt, goodLine, offset, rulesUpTo, headingAnswer, lineAnswer, linesAnswer, closingAnswer, countOf, answerOf as policy-answer, policyOf}
 use Rattle.policy.specs.Proper.{Proper, Causes as Policy-reader-causes}
 use Rattle.message.specs.Format.{lengthOf, goodMessage, answerOf as message-answer}
 use Rattle.message.specs.Fixes.{Message, Fits, Well-formed, meaningOf}
@@ -60,7 +60,7 @@ lines-numbered s (suc i) = go (linesAnswer s i) (lines-numbered s i) (leb (offse
     go C.Accepted n true true = tt
 
 policy-numbered : (s : List ℕ) → Numbered 1 4 (policy-answer s)
-unfolding policy-answer
+unfolding policy-answer closingAnswer
 policy-numbered s =
     go (leb 5 (length s)) (headingAnswer s) (heading-numbered s) (linesAnswer s (countOf s)) (lines-numbered s (countOf s))
     (eqb (offset s (countOf s)) (length s)) (within 1 8 (rulesUpTo s (countOf s)))

@@ -1,3 +1,6 @@
 -- The policy: its format, and the laws of what is read.
+pub mod Answers
 pub mod Format
+pub mod Laws
+pub mod Lines
 pub mod Proper
