@@ -1,20 +1,15 @@
 -- What a line's tests say, kind by kind. Assumes nothing.
 use mathlib.Core.Path.{_≡_, refl, sym, _∙_}
-use mathlib.Core.Bool.{Bool, true, false, not, cond, _&&_}
+use mathlib.Core.Bool.{Bool, not, _&&_}
 use Prim.Native.Nat.{ℕ, zero, suc, _+_, _-_, _≤_, _<_}
 use native.Mathlib.Omega.{arith}
 use borrow.Author.Tests.{lt-leb, le-leb}
 use native.Mathlib.Decide.{decLe}
 use Rattle.mtl.specs.declared.Formula.the-variants as F
 use lib.Dec.{leb, ltb}
-use Rattle.encoding.specs.Fields.{has, size}
+use Rattle.encoding.specs.Fields.{has}
 use Rattle.policy.specs.declared.Fields.{Fields}
 use Rattle.policy.specs.Format.{allowed, operandsGood, meaning}
-
--- a field takes at most its size
-pub at-most : (present : Bool) (n : ℕ) → size present n ≤ n
-at-most true n = omega arith
-at-most false n = omega arith
 
 -- n bytes from a place on
 pub fits : (at n length : ℕ) → at ≤ length → leb n (length - at) ≡ leb (at + n) length
