@@ -1,0 +1,5 @@
+pub mod Walk
+pub mod Gap
+pub mod Store
+pub mod Pair
+pub mod Points
