@@ -31,24 +31,25 @@ or-mono (less {y = false3}) (same {x = true3}) = same
 mono : Kept _⊑_ three three
 mono = record { top = same; bottom = same; neg = not-mono; join = or-mono }
 
--- w knows all that v knows, and its window shows at least as much
+-- where v's window shows a minute, w's does, and knows all that v knows
 pub record Knows (v w : World Truth) : Type 0 where
-  pub time-point : (t : ℕ) → v .time-point t ⊑ w .time-point t
-  pub proposition : (p t : ℕ) → v .proposition p t ⊑ w .proposition p t
+  pub time-point : (t : ℕ) → v .window t ≡ true → v .time-point t ⊑ w .time-point t
+  pub proposition : (p t : ℕ) → v .window t ≡ true → v .proposition p t ⊑ w .proposition p t
   pub window : (t : ℕ) → v .window t ≡ true → w .window t ≡ true
   pub dark : v .outside ≡ unknown
 
-shown-mono : (v w : World Truth) → v .outside ≡ unknown → (t : ℕ) → (v .window t ≡ true → w .window t ≡ true)
-    → {x y : Truth} → x ⊑ y → seen v t x ⊑ seen w t y
-shown-mono v w e t c {x} {y} h = go (v .window t) (w .window t) c
+shown-mono : (v w : World Truth) → Knows v w → (t : ℕ) {x y : Truth} → (v .window t ≡ true → x ⊑ y) → seen v t x ⊑ seen w t y
+shown-mono v w n t {x} {y} h = go (v .window t) (w .window t) h (n .window t)
   where
-    go : (p q : Bool) → (p ≡ true → q ≡ true) → elim p as (λ _. Truth) [ true ↦ x | false ↦ v .outside ] ⊑ elim q as (λ _. Truth) [ true ↦ y | false ↦ w .outside ]
-    go false q c = rw e less
-    go true false c = absurd (true≢false (sym (c refl)))
-    go true true c = h
+    go : (p q : Bool) → (p ≡ true → x ⊑ y) → (p ≡ true → q ≡ true) → elim p as (λ _. Truth) [ true ↦ x | false ↦ v .outside ] ⊑ elim q as (λ _. Truth) [ true ↦ y | false ↦ w .outside ]
+    go false q h c = rw (n .dark) less
+    go true false h c = absurd (true≢false (sym (c refl)))
+    go true true h c = h refl
 
 pub knows-more : (v w : World Truth) → Knows v w → (line : ℕ → Formula) (k t : ℕ) → reading three v line k t ⊑ reading three w line k t
-knows-more v w n = reading-kept _⊑_ three three mono v w (record { time-point = n .time-point; proposition = n .proposition; shown = λ t. shown-mono v w (n .dark) t (n .window t) })
+knows-more v w n =
+    reading-kept _⊑_ three three mono v w
+    (record { time-point = λ t. shown-mono v w n t (n .time-point t); proposition = λ p t. shown-mono v w n t (n .proposition p t); shown = λ t h. shown-mono v w n t (λ e. h) })
 
 -- ---- a decided value is the two-valued one
 
@@ -78,23 +79,24 @@ or-decides (open3 {b = false}) is-true = is-true
 decide : Kept Decides three two
 decide = record { top = is-true; bottom = is-false; neg = not-decides; join = or-decides }
 
--- w has the truth of what v knows, and shows everything
+-- w shows every minute, and has the truth of what v knows
 pub record True-to (v : World Truth) (w : World Bool) : Type 0 where
-  pub time-point : (t : ℕ) → Decides (v .time-point t) (w .time-point t)
-  pub proposition : (p t : ℕ) → Decides (v .proposition p t) (w .proposition p t)
+  pub time-point : (t : ℕ) → v .window t ≡ true → Decides (v .time-point t) (w .time-point t)
+  pub proposition : (p t : ℕ) → v .window t ≡ true → Decides (v .proposition p t) (w .proposition p t)
   pub window : (t : ℕ) → w .window t ≡ true
   pub dark : v .outside ≡ unknown
 
-shown-decides : (v : World Truth) (w : World Bool) → v .outside ≡ unknown → (t : ℕ) → w .window t ≡ true
-    → {x : Truth} {y : Bool} → Decides x y → Decides (seen v t x) (seen w t y)
-shown-decides v w e t c {x} {y} h = rw (c, seen) (go (v .window t))
+shown-decides : (v : World Truth) (w : World Bool) → True-to v w → (t : ℕ) {x : Truth} {y : Bool} → (v .window t ≡ true → Decides x y) → Decides (seen v t x) (seen w t y)
+shown-decides v w n t {x} {y} h = rw (n .window t, seen) (go (v .window t) h)
   where
-    go : (p : Bool) → Decides (elim p as (λ _. Truth) [ true ↦ x | false ↦ v .outside ]) y
-    go false = rw e open3
-    go true = h
+    go : (p : Bool) → (p ≡ true → Decides x y) → Decides (elim p as (λ _. Truth) [ true ↦ x | false ↦ v .outside ]) y
+    go false h = rw (n .dark) open3
+    go true h = h refl
 
 pub reading-decides : (v : World Truth) (w : World Bool) → True-to v w → (line : ℕ → Formula) (k t : ℕ) → Decides (reading three v line k t) (reading two w line k t)
-reading-decides v w n = reading-kept Decides three two decide v w (record { time-point = n .time-point; proposition = n .proposition; shown = λ t. shown-decides v w (n .dark) t (n .window t) })
+reading-decides v w n =
+    reading-kept Decides three two decide v w
+    (record { time-point = λ t. shown-decides v w n t (n .time-point t); proposition = λ p t. shown-decides v w n t (n .proposition p t); shown = λ t h. shown-decides v w n t (λ e. h) })
 
 pub decided-true : (b : Bool) → Decides true3 b → b ≡ true
 decided-true b is-true = refl

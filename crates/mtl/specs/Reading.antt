@@ -74,7 +74,7 @@ module _ {A : Type 0} (a : Algebra A) (w : World A) where
   -- a subformula's value from the values of those that it names
   abbrev pub meaning : (ℕ → ℕ → A) → Formula → ℕ → A
   meaning v True t = a .top
-  meaning v (Proposition p) t = w .proposition p t
+  meaning v (Proposition p) t = seen w t (w .proposition p t)
   meaning v (Not i) t = a .neg (v i t)
   meaning v (Or i j) t = a .join (v i t) (v j t)
   meaning v (Since i j lower upper) t = since (v i) (v j) lower upper t

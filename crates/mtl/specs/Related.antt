@@ -14,10 +14,10 @@ pub record Kept {A B : Type 0} (R : A → B → Type 0) (a : Algebra A) (b : Alg
   pub neg : {x : A} {y : B} → R x y → R (a .neg x) (b .neg y)
   pub join : {x : A} {y : B} {x′ : A} {y′ : B} → R x y → R x′ y′ → R (a .join x x′) (b .join y y′)
 
--- the two worlds are related minute by minute, and so is what their windows show of related values
+-- what the two windows show is related: of e, of the propositions, and of related values
 pub record Alike {A B : Type 0} (R : A → B → Type 0) (v : World A) (w : World B) : Type 0 where
-  pub time-point : (t : ℕ) → R (v .time-point t) (w .time-point t)
-  pub proposition : (p t : ℕ) → R (v .proposition p t) (w .proposition p t)
+  pub time-point : (t : ℕ) → R (seen v t (v .time-point t)) (seen w t (w .time-point t))
+  pub proposition : (p t : ℕ) → R (seen v t (v .proposition p t)) (seen w t (w .proposition p t))
   pub shown : (t : ℕ) {x : A} {y : B} → R x y → R (seen v t x) (seen w t y)
 
 pub operands-map : (φ : Formula) {P Q : ℕ → Type 0} → ((i : ℕ) → P i → Q i) → Operands P φ → Operands Q φ
@@ -47,7 +47,7 @@ module _ {A B : Type 0} (R : A → B → Type 0) (a : Algebra A) (b : Algebra B)
 
   module _ (v : World A) (w : World B) (s : Alike R v w) where
     point-kept : (t : ℕ) → R (point a v t) (point b w t)
-    point-kept t = s .shown t (s .time-point t)
+    point-kept t = s .time-point t
 
     met-kept : {α α′ : ℕ → A} {β β′ : ℕ → B} → ((t : ℕ) → R (α t) (β t)) → ((t : ℕ) → R (α′ t) (β′ t)) → (j lo n : ℕ)
         → R (meet a (meets a v α′ j) (keeps a v α lo n)) (meet b (meets b w β′ j) (keeps b w β lo n))

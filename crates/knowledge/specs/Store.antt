@@ -1,0 +1,273 @@
+-- What storing a message does to each sequence number and each fact.
+use Prim.Native.Nat.{ℕ, zero, suc, _+_, _-_, _*_, _≤_, _<_}
+use native.Mathlib.Omega.{arith}
+use native.Mathlib.Decide.{ℕ-discrete}
+use mathlib.Core.Path.{_≡_, refl, sym, ap, ap₂, _∙_}
+use mathlib.Core.Bool.{Bool, true, false, not, cond, _||_, true≢false, or-true, or-false, or-self}
+use mathlib.Core.Logic.{_⊎_, inl, inr, _↔_}
+use mathlib.Core.List.{List}
+use lib.ListN.{getD, length, set, length-set}
+use lib.Seq.{getD-set-same, getD-set-other}
+use lib.Bits.{bitOr}
+use Rattle.kleene.specs.Truth.{Truth, unknown, false3, true3}
+use Rattle.knowledge.specs.Knowledge.{none}
+use Rattle.bits.specs.Bits.{bit, bit-or}
+use Rattle.rows.specs.Grid.{same-row, same-place, in-grid}
+use Rattle.policy.specs.declared.Sizes.{Sizes}
+use Rattle.message.specs.declared.Event.{Event}
+use Rattle.message.specs.declared.Event.the-variants.{Observation, Alive}
+use Rattle.message.specs.Fixes.{Message, Fixes-number, Fixes-fact, Fits, Fits-event}
+use Rattle.knowledge.specs.Knowledge.{Knowledge, Sized, noted, valued, fact, number, Sound, put-numbers, put-facts, stored}
+use Rattle.knowledge.specs.Laws.{Limits}
+use Rattle.knowledge.specs.Laws.{Free}
+
+-- a list with two cells set
+module _ (l : List ℕ) (i j a b d : ℕ) where
+  first-set : (i ≡ j → ⊥) → i < length l → getD (set (set l i a) j b) i d ≡ a
+  first-set n h = getD-set-other (set l i a) j i b d n ∙ getD-set-same l i a d h
+
+  second-set : j < length l → getD (set (set l i a) j b) j d ≡ b
+  second-set h = getD-set-same (set l i a) j b d (rw (length-set l i a) h)
+
+  neither-set : (x : ℕ) → (x ≡ i → ⊥) → (x ≡ j → ⊥) → getD (set (set l i a) j b) x d ≡ getD l x d
+  neither-set x n o = getD-set-other (set l i a) j x b d o ∙ getD-set-other l i x a d n
+
+-- a fact that is known, in two parts
+pub record Fact (k : Knowledge) (i t : ℕ) (b : Bool) : Type 0 where
+  pub is : noted k i t ≡ true
+  pub so : valued k i t ≡ b
+
+three-of : Bool → Bool → Truth
+three-of n v = cond n (cond v true3 false3) unknown
+
+told : Truth → ℕ
+told unknown = 0
+told true3 = 1
+told false3 = 2
+
+pub fact-law : (k : Knowledge) (i t : ℕ) (b : Bool) → (fact k i t ≡ cond b true3 false3) ↔ Fact k i t b
+fact-law k i t b = (λ e. go (noted k i t) refl (valued k i t) refl b e, λ f. rw (f .is, f .so) refl)
+  where
+    go : (n : Bool) → noted k i t ≡ n → (v : Bool) → valued k i t ≡ v → (b : Bool) → cond n (cond v true3 false3) unknown ≡ cond b true3 false3 → Fact k i t b
+    go true e true f true h = record { is = e; so = f }
+    go true e false f false h = record { is = e; so = f }
+    go true e true f false h = let z : _≡_ {A = ℕ} 0 1 = cc in absurd (omega arith)
+    go true e false f true h = let z : _≡_ {A = ℕ} 0 1 = cc in absurd (omega arith)
+    go false e v f true h = let z : _≡_ {A = ℕ} 0 1 = cc in absurd (omega arith)
+    go false e v f false h = let z : _≡_ {A = ℕ} 0 1 = cc in absurd (omega arith)
+
+module _ (c : Sizes) where
+  put-hit : (l : List ℕ) → length l ≡ c .components * suc (c .minutes) → (s : ℕ) → s < c .components → (x : Event) → Fits-event c x
+      → (p n : ℕ) → Fixes-number x p n → getD (put-numbers c l s x) (s * suc (c .minutes) + p) none ≡ n
+  put-hit l e s h (Alive t n) f p v g =
+      rw (g .0, g .1) (getD-set-same l _ n none (omega (arith, in-grid (c .components) (suc (c .minutes)) s t h (omega arith))))
+  put-hit l e s h (Observation t n named values) f p v (inl g) =
+      rw (g .0, g .1) (first-set l (s * suc (c .minutes) + suc t) (s * suc (c .minutes) + t) n (n - 1) none (omega arith)
+      (omega (arith, in-grid (c .components) (suc (c .minutes)) s (suc t) h (omega (arith, f .0)))))
+  put-hit l e s h (Observation t n named values) f p v (inr g) =
+      rw (g .0, g .1) (second-set l (s * suc (c .minutes) + suc t) (s * suc (c .minutes) + t) n (n - 1) none
+      (omega (arith, in-grid (c .components) (suc (c .minutes)) s t h (omega (arith, f .0)))))
+
+  -- a place that is not (s′, q) keeps its number
+  apart : (s p s′ q : ℕ) → p ≤ c .minutes → q ≤ c .minutes → ((s′ ≡ s) × (p ≡ q) → ⊥) → s * suc (c .minutes) + p ≡ s′ * suc (c .minutes) + q → ⊥
+  apart s p s′ q h k n e =
+      n (sym (same-row (suc (c .minutes)) s p s′ q (omega arith) (omega arith) e), same-place (suc (c .minutes)) s p s′ q (omega arith) (omega arith) e)
+
+  put-either : (l : List ℕ) (s′ : ℕ) (x : Event) → Fits-event c x → (s p : ℕ) → p ≤ c .minutes
+      → ((n : ℕ) × (s′ ≡ s) × Fixes-number x p n) ⊎ (getD (put-numbers c l s′ x) (s * suc (c .minutes) + p) none ≡ getD l (s * suc (c .minutes) + p) none)
+  put-either l s′ (Alive t n) f s p h = go (ℕ-discrete s′ s) (ℕ-discrete p t)
+    where
+      go : Dec (s′ ≡ s) → Dec (p ≡ t) → ((v : ℕ) × (s′ ≡ s) × Fixes-number (Alive t n) p v) ⊎ (getD (put-numbers c l s′ (Alive t n)) (s * suc (c .minutes) + p) none ≡ getD l (s * suc (c .minutes) + p) none)
+      go (yes a) (yes b) = inl (n, a, (b, refl))
+      go (no a) d = inr (getD-set-other l _ _ n none (apart s p s′ t h f (λ z. a (z .0))))
+      go (yes a) (no b) = inr (getD-set-other l _ _ n none (apart s p s′ t h f (λ z. b (z .1))))
+  put-either l s′ (Observation t n named values) f s p h = go (ℕ-discrete s′ s) (ℕ-discrete p (suc t)) (ℕ-discrete p t)
+    where
+      miss : ((s′ ≡ s) × (p ≡ suc t) → ⊥) → ((s′ ≡ s) × (p ≡ t) → ⊥)
+          → getD (put-numbers c l s′ (Observation t n named values)) (s * suc (c .minutes) + p) none ≡ getD l (s * suc (c .minutes) + p) none
+      miss a b =
+          neither-set l (s′ * suc (c .minutes) + suc t) (s′ * suc (c .minutes) + t) n (n - 1) none (s * suc (c .minutes) + p)
+          (apart s p s′ (suc t) h (f .0) a) (apart s p s′ t h (omega (arith, f .0)) b)
+
+      go : Dec (s′ ≡ s) → Dec (p ≡ suc t) → Dec (p ≡ t)
+          → ((v : ℕ) × (s′ ≡ s) × Fixes-number (Observation t n named values) p v) ⊎ (getD (put-numbers c l s′ (Observation t n named values)) (s * suc (c .minutes) + p) none ≡ getD l (s * suc (c .minutes) + p) none)
+      go (yes a) (yes b) d = inl (n, a, inl (b, refl))
+      go (yes a) (no b) (yes d) = inl (n - 1, a, inr (d, refl))
+      go (yes a) (no b) (no d) = inr (miss (λ z. b (z .1)) (λ z. d (z .1)))
+      go (no a) b d = inr (miss (λ z. a (z .0)) (λ z. a (z .0)))
+
+  put-length : (l : List ℕ) (s : ℕ) (x : Event) → length (put-numbers c l s x) ≡ length l
+  put-length l s (Alive t n) = length-set l _ n
+  put-length l s (Observation t n named values) = length-set (set l (s * suc (c .minutes) + suc t) n) _ (n - 1) ∙ length-set l _ n
+
+  facts-length : (l : List ℕ) (x : Event) → length (put-facts c l x) ≡ length l
+  facts-length l (Alive t n) = refl
+  facts-length l (Observation t n named values) = length-set (set l (2 * t) (bitOr (getD l (2 * t) 0) named)) _ _ ∙ length-set l _ _
+
+  module _ (k : Knowledge) (m : Message) (long : Sized c k) (fits : Fits c m) where
+    pub store-long : Sized c (stored c k m)
+    unfolding stored
+    store-long = record { numbers = put-length (k .numbers) (m .component) (m .event) ∙ long .numbers; facts = facts-length (k .facts) (m .event) ∙ long .facts }
+
+    pub number-hit : (p n : ℕ) → Fixes-number (m .event) p n → number c (stored c k m) (m .component) p ≡ n
+    unfolding stored number
+    number-hit p n f = put-hit (k .numbers) (long .numbers) (m .component) (fits .component-in) (m .event) (fits .event-in) p n f
+
+    pub number-either : (s p : ℕ) → p ≤ c .minutes
+        → ((n : ℕ) × (m .component ≡ s) × Fixes-number (m .event) p n) ⊎ (number c (stored c k m) s p ≡ number c k s p)
+    unfolding stored number
+    number-either s p h = put-either (k .numbers) (m .component) (m .event) (fits .event-in) s p h
+
+  -- the facts of the minute of an observation
+  noted-at : (l : List ℕ) (cs cs′ : List ℕ) (t n named values : ℕ) → 2 * t + 1 < length l → (i : ℕ)
+      → noted (record { numbers = cs; facts = put-facts c l (Observation t n named values) }) i t ≡ (noted (record { numbers = cs′; facts = l }) i t || bit named i)
+  unfolding noted
+  noted-at l cs cs′ t n named values h i =
+      ap (λ (x : ℕ). bit x i) (first-set l (2 * t) (2 * t + 1) (bitOr (getD l (2 * t) 0) named) (bitOr (getD l (2 * t + 1) 0) values) 0 (omega arith) (omega arith)) ∙ bit-or i _ named
+
+  valued-at : (l : List ℕ) (cs cs′ : List ℕ) (t n named values : ℕ) → 2 * t + 1 < length l → (i : ℕ)
+      → valued (record { numbers = cs; facts = put-facts c l (Observation t n named values) }) i t ≡ (valued (record { numbers = cs′; facts = l }) i t || bit values i)
+  unfolding valued
+  valued-at l cs cs′ t n named values h i =
+      ap (λ (x : ℕ). bit x i) (second-set l (2 * t) (2 * t + 1) (bitOr (getD l (2 * t) 0) named) (bitOr (getD l (2 * t + 1) 0) values) 0 h) ∙ bit-or i _ values
+
+  noted-off : (l : List ℕ) (cs cs′ : List ℕ) (t n named values : ℕ) (i u : ℕ) → (u ≡ t → ⊥)
+      → noted (record { numbers = cs; facts = put-facts c l (Observation t n named values) }) i u ≡ noted (record { numbers = cs′; facts = l }) i u
+  unfolding noted
+  noted-off l cs cs′ t n named values i u h =
+      ap (λ (x : ℕ). bit x i) (neither-set l (2 * t) (2 * t + 1) (bitOr (getD l (2 * t) 0) named) (bitOr (getD l (2 * t + 1) 0) values) 0 (2 * u) (λ (e : 2 * u ≡ 2 * t). h (omega arith)) (omega arith))
+
+  valued-off : (l : List ℕ) (cs cs′ : List ℕ) (t n named values : ℕ) (i u : ℕ) → (u ≡ t → ⊥)
+      → valued (record { numbers = cs; facts = put-facts c l (Observation t n named values) }) i u ≡ valued (record { numbers = cs′; facts = l }) i u
+  unfolding valued
+  valued-off l cs cs′ t n named values i u h =
+      ap (λ (x : ℕ). bit x i) (neither-set l (2 * t) (2 * t + 1) (bitOr (getD l (2 * t) 0) named) (bitOr (getD l (2 * t + 1) 0) values) 0 (2 * u + 1) (omega arith) (λ (e : 2 * u + 1 ≡ 2 * t + 1). h (omega arith)))
+
+  -- a value bit only where the proposition is named
+  unnamed : (named values : ℕ) → ((i : ℕ) → bit values i ≡ true → bit named i ≡ true) → (i : ℕ) → bit named i ≡ false → bit values i ≡ false
+  unnamed named values h i e = go (bit values i) refl
+    where
+      go : (b : Bool) → bit values i ≡ b → bit values i ≡ false
+      go true f = absurd (true≢false (sym (h i f) ∙ e))
+      go false f = f
+
+  -- where the value bit at hand, known or not, admits with the new one, the two together are the new one
+  merged : (n v b : Bool) → (v ≡ true → n ≡ true) → (n ≡ true → v ≡ b) → (v || b) ≡ b
+  merged true v b f g = ap (λ (x : Bool). x || b) (g refl) ∙ or-self b
+  merged false true b f g = absurd (true≢false (sym (f refl)))
+  merged false false b f g = refl
+
+  module _ (k : Knowledge) (t n named values : ℕ) (fits : Fits-event c (Observation t n named values)) (facts-long : length (k .facts) ≡ 2 * c .minutes)
+      (clean : Sound c k) (s : ℕ) (free : Free c k s (Observation t n named values)) (cs : List ℕ) where
+    abbrev next : Knowledge
+    next = record { numbers = cs; facts = put-facts c (k .facts) (Observation t n named values) }
+
+    named-there : (i : ℕ) → i < 32 → bit named i ≡ true → Fact next i t (bit values i)
+    named-there i h e = record {
+      is = noted-at (k .facts) cs (k .numbers) t n named values (omega (arith, fits .0)) i ∙ ap (λ (x : Bool). noted k i t || x) e ∙ or-true (noted k i t);
+      so = valued-at (k .facts) cs (k .numbers) t n named values (omega (arith, fits .0)) i
+          ∙ merged (noted k i t) (valued k i t) (bit values i) (clean .values i t h (fits .0)) (free .facts i t (bit values i) h (refl, e, refl));
+    }
+
+    still-noted : (i : ℕ) → bit named i ≡ false → noted next i t ≡ noted k i t
+    still-noted i e = noted-at (k .facts) cs (k .numbers) t n named values (omega (arith, fits .0)) i ∙ ap (λ (x : Bool). noted k i t || x) e ∙ or-false (noted k i t)
+
+    still-valued : (i : ℕ) → bit named i ≡ false → valued next i t ≡ valued k i t
+    still-valued i e =
+        valued-at (k .facts) cs (k .numbers) t n named values (omega (arith, fits .0)) i
+        ∙ ap (λ (x : Bool). valued k i t || x) (unnamed named values (fits .5) i e) ∙ or-false (valued k i t)
+
+    -- each bit is as it was, or named
+    bits-either : (i u : ℕ) → ((u ≡ t) × (bit named i ≡ true)) ⊎ ((noted next i u ≡ noted k i u) × (valued next i u ≡ valued k i u))
+    bits-either i u = go (ℕ-discrete u t) (bit named i) refl
+      where
+        go : Dec (u ≡ t) → (b : Bool) → bit named i ≡ b → ((u ≡ t) × (bit named i ≡ true)) ⊎ ((noted next i u ≡ noted k i u) × (valued next i u ≡ valued k i u))
+        go (no d) b e = inr (noted-off (k .facts) cs (k .numbers) t n named values i u d, valued-off (k .facts) cs (k .numbers) t n named values i u d)
+        go (yes d) true e = inl (d, e)
+        go (yes d) false e = inr (rw d (still-noted i e), rw d (still-valued i e))
+
+  -- what is known after an observation or an alive is stored
+  module _ (k : Knowledge) (m : Message) (long : Sized c k) (fits : Fits c m) (clean : Sound c k) (free : Free c k (m .component) (m .event)) where
+    bit-cases : (x : Event) → Fits-event c x → Free c k (m .component) x → (cs : List ℕ) → (i u : ℕ) → i < 32
+        → ((b : Bool) × Fixes-fact x i u b × Fact (record { numbers = cs; facts = put-facts c (k .facts) x }) i u b)
+        ⊎ ((noted (record { numbers = cs; facts = put-facts c (k .facts) x }) i u ≡ noted k i u) × (valued (record { numbers = cs; facts = put-facts c (k .facts) x }) i u ≡ valued k i u))
+    unfolding noted valued
+    bit-cases (Alive t n) f g cs i u h = inr (refl, refl)
+    bit-cases (Observation t n named values) f g cs i u h = go (bits-either k t n named values f (long .facts) clean (m .component) g cs i u)
+      where
+        go : ((u ≡ t) × (bit named i ≡ true)) ⊎ ((noted (next k t n named values f (long .facts) clean (m .component) g cs) i u ≡ noted k i u) × (valued (next k t n named values f (long .facts) clean (m .component) g cs) i u ≡ valued k i u))
+            → ((b : Bool) × Fixes-fact (Observation t n named values) i u b × Fact (next k t n named values f (long .facts) clean (m .component) g cs) i u b)
+            ⊎ ((noted (next k t n named values f (long .facts) clean (m .component) g cs) i u ≡ noted k i u) × (valued (next k t n named values f (long .facts) clean (m .component) g cs) i u ≡ valued k i u))
+        go (inl z) = inl (bit values i, (z .0, z .1, refl), rw (z .0) (named-there k t n named values f (long .facts) clean (m .component) g cs i h (z .1)))
+        go (inr z) = inr z
+
+    pub fact-cases : (i u : ℕ) → i < 32
+        → ((b : Bool) × Fixes-fact (m .event) i u b × Fact (stored c k m) i u b)
+        ⊎ ((noted (stored c k m) i u ≡ noted k i u) × (valued (stored c k m) i u ≡ valued k i u))
+    unfolding stored
+    fact-cases i u h = bit-cases (m .event) (fits .event-in) free (put-numbers c (k .numbers) (m .component) (m .event)) i u h
+
+    event-hit : (x : Event) → Fits-event c x → Free c k (m .component) x → (cs : List ℕ) → (i u : ℕ) (b : Bool) → i < 32
+        → Fixes-fact x i u b → Fact (record { numbers = cs; facts = put-facts c (k .facts) x }) i u b
+    event-hit (Alive t n) f g cs i u b h z = absurd z
+    event-hit (Observation t n named values) f g cs i u b h z =
+        rw (z .0, z .2) (named-there k t n named values f (long .facts) clean (m .component) g cs i h (z .1))
+
+    pub fact-hit : (i u : ℕ) (b : Bool) → i < 32 → Fixes-fact (m .event) i u b → Fact (stored c k m) i u b
+    unfolding stored
+    fact-hit i u b h z = event-hit (m .event) (fits .event-in) free (put-numbers c (k .numbers) (m .component) (m .event)) i u b h z
+
+    -- a fact is known afterwards just where it was, or where the message fixes it
+    pub facts-after : (i u : ℕ) (b : Bool) → i < 32 → Fact (stored c k m) i u b ↔ (Fact k i u b ⊎ Fixes-fact (m .event) i u b)
+    facts-after i u b h = (λ z. there z (fact-cases i u h), back)
+      where
+        there : Fact (stored c k m) i u b
+            → ((d : Bool) × Fixes-fact (m .event) i u d × Fact (stored c k m) i u d) ⊎ ((noted (stored c k m) i u ≡ noted k i u) × (valued (stored c k m) i u ≡ valued k i u))
+            → Fact k i u b ⊎ Fixes-fact (m .event) i u b
+        there z (inl y) = let e : y .0 ≡ b = sym (y .2 .so) ∙ z .so in inr (rw e at (y .1))
+        there z (inr y) = inl (record { is = sym (y .0) ∙ z .is; so = sym (y .1) ∙ z .so })
+
+        keep : Fact k i u b
+            → ((d : Bool) × Fixes-fact (m .event) i u d × Fact (stored c k m) i u d) ⊎ ((noted (stored c k m) i u ≡ noted k i u) × (valued (stored c k m) i u ≡ valued k i u))
+            → Fact (stored c k m) i u b
+        keep z (inl y) = record { is = y .2 .is; so = y .2 .so ∙ sym (free .facts i u (y .0) h (y .1) (z .is)) ∙ z .so }
+        keep z (inr y) = record { is = y .0 ∙ z .is; so = y .1 ∙ z .so }
+
+        back : Fact k i u b ⊎ Fixes-fact (m .event) i u b → Fact (stored c k m) i u b
+        back (inl z) = keep z (fact-cases i u h)
+        back (inr z) = fact-hit i u b h z
+
+    -- and so a number
+    pub numbers-after : (s p n : ℕ) → p ≤ c .minutes → n < none
+        → (number c (stored c k m) s p ≡ n) ↔ ((number c k s p ≡ n) ⊎ ((m .component ≡ s) × Fixes-number (m .event) p n))
+    numbers-after s p n h l = (λ e. there e (number-either k m long fits s p h), back)
+      where
+        there : number c (stored c k m) s p ≡ n
+            → ((v : ℕ) × (m .component ≡ s) × Fixes-number (m .event) p v) ⊎ (number c (stored c k m) s p ≡ number c k s p)
+            → (number c k s p ≡ n) ⊎ ((m .component ≡ s) × Fixes-number (m .event) p n)
+        there e (inl y) =
+            let f : y .0 ≡ n = sym (number-hit k m long fits p (y .0) (y .2)) ∙ ap (λ (x : ℕ). number c (stored c k m) x p) (y .1) ∙ e in
+            inr (y .1, rw f at (y .2))
+        there e (inr y) = inl (sym y ∙ e)
+
+        keep : number c k s p ≡ n
+            → ((v : ℕ) × (m .component ≡ s) × Fixes-number (m .event) p v) ⊎ (number c (stored c k m) s p ≡ number c k s p)
+            → number c (stored c k m) s p ≡ n
+        keep e (inl y) =
+            ap (λ (x : ℕ). number c (stored c k m) x p) (sym (y .1)) ∙ number-hit k m long fits p (y .0) (y .2)
+            ∙ sym (free .numbers p (y .0) (y .2) (rw (y .1, e) l)) ∙ ap (λ (x : ℕ). number c k x p) (y .1) ∙ e
+        keep e (inr y) = y ∙ e
+
+        back : (number c k s p ≡ n) ⊎ ((m .component ≡ s) × Fixes-number (m .event) p n) → number c (stored c k m) s p ≡ n
+        back (inl e) = keep e (number-either k m long fits s p h)
+        back (inr y) = ap (λ (x : ℕ). number c (stored c k m) x p) (sym (y .0)) ∙ number-hit k m long fits p n (y .1)
+
+  -- what a message in range fixes is in range
+  pub fixed-place : (x : Event) → Fits-event c x → (p n : ℕ) → Fixes-number x p n → p ≤ c .minutes
+  fixed-place (Alive t n) f p v g = rw (g .0) f
+  fixed-place (Observation t n named values) f p v (inl g) = rw (g .0) (f .0)
+  fixed-place (Observation t n named values) f p v (inr g) = rw (g .0) (omega (arith, f .0))
+
+  pub fixed-fact : (x : Event) → Fits-event c x → (i u : ℕ) (b : Bool) → Fixes-fact x i u b → (i < c .propositions) × (u < c .minutes)
+  fixed-fact (Alive t n) f i u b g = absurd g
+  fixed-fact (Observation t n named values) f i u b g = (f .4 i (g .1), rw (g .0) (f .0))
