@@ -3,3 +3,5 @@ pub mod Gap
 pub mod Store
 pub mod Pair
 pub mod Points
+pub mod Words
+pub mod Parts

@@ -1,17 +1,27 @@
 -- One component's run of sequence numbers, as a function from the place: place 0 stands for "before minute 0", place t + 1 for minute t.
-use Prim.Native.Nat.{ℕ, suc, _+_, _-_, _≤_, _<_}
+use Prim.Native.Nat.{ℕ, suc, _+_, _-_, _*_, _≤_, _<_}
 use mathlib.Core.Path.{_≡_}
-use mathlib.Core.Bool.{Bool, true, false, not, cond, _&&_, _||_}
+use mathlib.Core.Bool.{Bool, true, false, not, cond, _&&_, _||_, Bool·beq}
 use mathlib.Core.List.{List}
 use lib.Dec.{ltb, leb, eqb}
-use lib.ListN.{getD}
-use Rattle.kleene.specs.Truth.{Truth, unknown, true3, false3}
+use lib.ListN.{getD, length}
+use Rattle.kleene.specs.Truth.{Truth, unknown, true3, false3, codeOf}
 use Rattle.mtl.specs.Algebra.{two, any, all}
-use Rattle.knowledge.specs.Knowledge.{none}
+use Rattle.bits.specs.Bits.{bit}
+use Rattle.policy.specs.declared.Sizes.{Sizes}
+use Rattle.knowledge.specs.Knowledge.{Knowledge, none, point-known}
 
 -- the run of a list
 abbrev pub cell : List ℕ → ℕ → ℕ
 cell l p = getD l p 0
+
+-- component c's run among the runs of m minutes, one after another
+abbrev pub run-of : List ℕ → ℕ → ℕ → ℕ → ℕ
+run-of l m c p = getD l (c * suc m + p) none
+
+-- the knowledge in two lists
+abbrev pub held : List ℕ → List ℕ → Knowledge
+held numbers facts = record { numbers = numbers; facts = facts }
 
 -- a number v, and a number w that stands d places later: "0 ≤ later − earlier ≤ b − a"
 unfoldable pub follow : ℕ → ℕ → ℕ → Bool
@@ -64,11 +74,12 @@ gap v w d = cond (eqb v w) false3 (cond (eqb d 1) true3 unknown)
 unfoldable pub put : (ℕ → ℕ) → ℕ → ℕ → ℕ → ℕ
 put f p v i = cond (eqb i p) v (f i)
 
--- may v be stored at place p: what is known there is v, and the run with it is steady
+-- may v be stored at place p: it is not 65535, what is known there is v, and the run with it is steady
 unfoldable pub may : (ℕ → ℕ) → ℕ → ℕ → ℕ → Bool
-may f n p v = (not (ltb (f p) none) || eqb (f p) v) && steady (put f p v) n
+may f n p v = (ltb v none && (not (ltb (f p) none) || eqb (f p) v)) && steady (put f p v) n
 
 pub record May (f : ℕ → ℕ) (n p v : ℕ) : Type 0 where
+  pub small : v < none
   pub nothing-else : f p < none → f p ≡ v
   pub stored : Steady (put f p v) n
 
@@ -84,3 +95,21 @@ pub record Previous (f : ℕ → ℕ) (place r : ℕ) : Type 0 where
   pub before : r < place
   pub known : f r < none
   pub between : (i : ℕ) → r < i → i < place → none ≤ f i
+
+-- every component's run is steady
+abbrev pub Steady-runs : Sizes → List ℕ → Type 0
+Steady-runs z l = (c : ℕ) → c < z .components → Steady (run-of l (z .minutes) c) (suc (z .minutes))
+
+-- the row of the numbers: for each minute whether it is a time point, as a truth code, and 0 from the last minute on
+pub record Point-row (z : Sizes) (numbers row : List ℕ) : Type 0 where
+  pub long : length row ≡ 1024
+  pub inside : (k : Knowledge) → k .numbers ≡ numbers → (t : ℕ) → t < z .minutes → getD row t 0 ≡ codeOf (point-known z k t)
+  pub past : (t : ℕ) → z .minutes ≤ t → getD row t 0 ≡ 0
+
+-- a minute's two words of facts: no value where its proposition is not known, and no proposition from p on
+unfoldable pub word-sound : ℕ → ℕ → ℕ → Bool
+word-sound p known values = all two 0 32 (λ i. (not (bit values i) || bit known i) && (not (bit known i) || ltb i p))
+
+-- no named proposition is known with another value
+unfoldable pub words-agree : ℕ → ℕ → ℕ → ℕ → Bool
+words-agree known old named values = all two 0 32 (λ i. not (bit named i && bit known i) || Bool·beq (bit old i) (bit values i))

@@ -1,13 +1,13 @@
--- Each test on a run, and on the knowledge, decides its claim.
+-- Each test on a run decides its claim.
 use Prim.Native.Nat.{ℕ, zero, suc, _+_, _-_, _*_, _≤_, _<_}
 use native.Mathlib.Omega.{arith}
 use mathlib.Core.Path.{_≡_, refl, sym, _∙_}
 use mathlib.Core.Bool.{Bool, true, not, _&&_, _||_}
 use Rattle.decide.specs.Decide.{Decides, Somewhere}
-use Rattle.decide.specs.Laws.{same, itself, less, most, equal, both, implies, each, some}
+use Rattle.decide.specs.Laws.{same, less, most, equal, both, implies, each, some}
 use Rattle.policy.specs.declared.Sizes.{Sizes}
-use Rattle.knowledge.specs.Knowledge.{Knowledge, none, number, noted, valued, Sound, sound}
-use Rattle.knowledge.specs.Run.{follow, Follow, steady, Steady, rises, Rises, level, Flat, put, may, May}
+use Rattle.knowledge.specs.Knowledge.{Knowledge, none, number, Sound}
+use Rattle.knowledge.specs.Run.{follow, Follow, steady, Steady, rises, Rises, level, Flat, put, may, May, Steady-runs}
 
 pub follow-decides : (v w d : ℕ) → Decides (follow v w d) (Follow v w d)
 unfolding follow
@@ -59,34 +59,10 @@ level-decides f m t =
 pub may-decides : (f : ℕ → ℕ) (n p v : ℕ) → Decides (may f n p v) (May f n p v)
 unfolding may
 may-decides f n p v =
-    same (λ h. record { nothing-else = h .0; stored = h .1 }) (λ h. (h .nothing-else, h .stored))
-    (both (implies (less (f p) none) (equal (f p) v)) (steady-decides (put f p v) n))
+    same (λ h. record { small = h .0 .0; nothing-else = h .0 .1; stored = h .1 }) (λ h. ((h .small, h .nothing-else), h .stored))
+    (both (both (less v none) (implies (less (f p) none) (equal (f p) v))) (steady-decides (put f p v) n))
 
-module _ (z : Sizes) (k : Knowledge) where
-  -- the numbers' part, and the facts' part
-  pub record Parts : Type 0 where
-    pub runs : (c : ℕ) → c < z .components → Steady (number z k c) (suc (z .minutes))
-    pub words : (t : ℕ) → t < z .minutes → (i : ℕ) → i < 32 → (valued k i t ≡ true → noted k i t ≡ true) × (noted k i t ≡ true → i < z .propositions)
-
-  pub parts-of : Sound z k → Parts
-  parts-of s = record {
-    runs = λ c l. record { first = s .first c l; pairs = λ b h a lt p q. let r = s .apart c a b l lt (omega arith) p q in record { up = r .0; slow = r .1 } };
-    words = λ t l i h. (s .values i t h l, s .propositions i t h l);
-  }
-
-  pub of-parts : Parts → Sound z k
-  of-parts p = record {
-    first = λ c l. p .runs c l .first;
-    apart = λ c a b l lt h x y. let r = p .runs c l .pairs b (omega arith) a lt x y in (r .up, r .slow);
-    values = λ i t h l. p .words t l i h .0;
-    propositions = λ i t h l. p .words t l i h .1;
-  }
-
-  pub sound-decides : Decides (sound z k) (Sound z k)
-  unfolding sound steady follow
-  sound-decides =
-      same of-parts parts-of
-      (same (λ h. record { runs = h .0; words = h .1 }) (λ h. (h .runs, h .words))
-      (both
-      (each (z .components) _ _ (λ c. steady-decides (number z k c) (suc (z .minutes))))
-      (each (z .minutes) _ _ (λ t. each 32 _ _ (λ i. both (implies (itself (valued k i t)) (itself (noted k i t))) (implies (itself (noted k i t)) (less i (z .propositions))))))))
+-- sound knowledge has steady runs
+pub runs-of : (z : Sizes) (k : Knowledge) → Sound z k → Steady-runs z (k .numbers)
+unfolding number
+runs-of z k s c l = record { first = s .first c l; pairs = λ b h a lt p q. let r = s .apart c a b l lt (omega arith) p q in record { up = r .0; slow = r .1 } }

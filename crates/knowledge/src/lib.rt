@@ -1,11 +1,18 @@
 // The knowledge (01: the record): known sequence numbers and facts.
+use message::Event;
+use policy::Sizes;
 ghost use mathlib.Core.Path.{_≡_};
 ghost use Prim.Native.Nat.{ℕ, suc, _+_, _*_, _≤_, _<_};
 ghost use lib.ListN.{length, getD};
 ghost use Rattle.kleene.specs.Truth.{codeOf, valueOf, or3};
 ghost use Rattle.rows.specs.Over.{Over};
-ghost use Rattle.knowledge.specs.Knowledge.{none};
-ghost use Rattle.knowledge.specs.Run.{cell, follow, steady, Steady, told, gap, may, Next, Previous};
+ghost use mathlib.Core.Bool.{_&&_};
+ghost use Prim.Native.Nat.{_^_};
+ghost use Rattle.mtl.specs.Algebra.{two, all};
+ghost use Rattle.message.specs.Fixes.{Fits};
+ghost use Rattle.knowledge.specs.Knowledge.{none, Sized, Sound, sound, admits, stored};
+ghost use Rattle.knowledge.specs.Laws.{Limits};
+ghost use Rattle.knowledge.specs.Run.{cell, run-of, held, follow, steady, Steady, Steady-runs, told, gap, may, Next, Previous, Point-row, word-sound, words-agree};
 
 // A sequence number that is not known.
 const NONE: u16 = 65535;
@@ -73,9 +80,12 @@ fn is_steady(run: &[u16]) -> bool
 
 // May the number v be stored at the place?
 fn may_store(run: &[u16], place: usize, v: u16) -> bool
-    requires { ⌜ (length (now run) ≤ 1025) × Steady (cell (now run)) (length (now run)) × (place < length (now run)) × (v < none) ⌝ }
+    requires { ⌜ (length (now run) ≤ 1025) × Steady (cell (now run)) (length (now run)) × (place < length (now run)) ⌝ }
     ensures { λ r. ⌜ r ≡ may (cell (now (run .entry))) (length (now (run .entry))) place v ⌝ }
 {
+    if v == NONE {
+        return false;
+    }
     let here = run[place];
     if here < NONE {
         return here == v;
@@ -129,4 +139,98 @@ fn join_run(row: &mut [u8; 1024], run: &[u16])
         q = next_known(run, q + 1);
     }
     join(row, p, run.len() - 1, 0);
+}
+
+// Is every component's run steady?
+fn are_steady(numbers: &[u16], components: usize, minutes: usize) -> bool
+    requires { ⌜ (minutes ≤ 1024) × (length (now numbers) ≡ components * suc minutes) ⌝ }
+    ensures { λ r. ⌜ r ≡ all two 0 components (λ c. steady (run-of (now (numbers .entry)) minutes c) (suc minutes)) ⌝ }
+{
+    let mut c: usize = 0;
+    let mut at: usize = 0;
+    while c < components {
+        let end = at + (minutes + 1);
+        if !is_steady(&numbers[at..end]) {
+            return false;
+        }
+        at = end;
+        c += 1;
+    }
+    true
+}
+
+// A minute's two words of facts: no value bit without its proposition, and none from the limit on.
+fn is_word_sound(known: u32, values: u32, limit: usize) -> bool
+    ensures { λ r. ⌜ ((p : ℕ) → limit ≡ 2 ^ p → r ≡ word-sound p known values) ⌝ }
+{
+    if known | values != known {
+        return false;
+    }
+    (known as usize) < limit
+}
+
+// Are the facts of every minute sound?
+fn are_facts_sound(facts: &[u32], propositions: usize, minutes: usize) -> bool
+    requires { ⌜ (propositions ≤ 32) × (length (now facts) ≡ 2 * minutes) ⌝ }
+    ensures { λ r. ⌜ r ≡ all two 0 minutes (λ t. word-sound propositions (getD (now (facts .entry)) (2 * t) 0) (getD (now (facts .entry)) (2 * t + 1) 0)) ⌝ }
+{
+    let limit = 1usize << propositions;
+    let mut t: usize = 0;
+    while t < minutes {
+        if !is_word_sound(facts[2 * t], facts[2 * t + 1], limit) {
+            return false;
+        }
+        t += 1;
+    }
+    true
+}
+
+// Is the knowledge sound (01: the record is sound)?
+pub fn is_sound(sizes: Sizes, numbers: &[u16], facts: &[u32]) -> bool
+    requires { ⌜ Limits sizes × Sized sizes (held (now numbers) (now facts)) ⌝ }
+    ensures { λ r. ⌜ r ≡ sound sizes (held (now (numbers .entry)) (now (facts .entry))) ⌝ }
+{
+    if !are_steady(numbers, sizes.components, sizes.minutes) {
+        return false;
+    }
+    are_facts_sound(facts, sizes.propositions, sizes.minutes)
+}
+
+// No named proposition is known with another value.
+fn do_words_agree(known: u32, old: u32, named: u32, values: u32) -> bool
+    ensures { λ r. ⌜ r ≡ words-agree known old named values ⌝ }
+{
+    known & named & (old ^ values) == 0
+}
+
+// Fills the cells below m with "false".
+fn fill(row: &mut [u8; 1024], m: usize)
+    requires { ⌜ (m ≤ 1024) × (length (now row) ≡ 1024) ⌝ }
+    ensures { λ _. ⌜ Over (λ i. 2) 0 m (now (row .entry)) (now (row .exit)) ⌝ }
+{
+    let mut i = 0;
+    while i < m {
+        row[i] = 2;
+        i += 1;
+    }
+}
+
+// Which minutes are time points (01: busy, quiet or open), as truth codes; the cells past the last minute are 0.
+pub fn point_row(sizes: Sizes, numbers: &[u16]) -> [u8; 1024]
+    requires { ⌜ (sizes .minutes ≤ 1024) × (length (now numbers) ≡ sizes .components * suc (sizes .minutes)) × Steady-runs sizes (now numbers) ⌝ }
+    ensures { λ r. ⌜ Point-row sizes (now (numbers .entry)) r ⌝ }
+{
+    let components = sizes.components;
+    let minutes = sizes.minutes;
+    let mut row = [0u8; 1024];
+    fill(&mut row, minutes);
+    let mut c: usize = 0;
+    let mut at: usize = 0;
+    while c < components {
+        let end = at + (minutes + 1);
+        join_run(&mut row, &numbers[at..end]);
+        at = end;
+        c += 1;
+    }
+    row
 }
