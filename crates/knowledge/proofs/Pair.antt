@@ -6,14 +6,14 @@ use native.Mathlib.Decide.{ℕ-discrete}
 use native.Mathlib.Omega.{arith}
 use Rattle.knowledge.specs.Knowledge.{none}
 use Rattle.knowledge.specs.Run.{Follow, Steady, put, May}
-use Rattle.knowledge.proofs.Store.{at-place, other, follow-up, steady-less}
+use Rattle.knowledge.proofs.Putting.{at-place, other, follow-up, steady-less}
 
-module _ (f : ℕ → ℕ) (n t v : ℕ) (l : suc t < n) where
+module _ (f : ℕ → ℕ) (n t v w : ℕ) (apart : w ≡ suc v) where
   abbrev one : ℕ → ℕ
   one = put f t v
 
   abbrev next : ℕ → ℕ
-  next = put f (suc t) (suc v)
+  next = put f (suc t) w
 
   abbrev two : ℕ → ℕ
   two = put next t v
@@ -24,42 +24,42 @@ module _ (f : ℕ → ℕ) (n t v : ℕ) (l : suc t < n) where
     where
       go : Dec (i ≡ t) → two i ≡ one i
       go (yes d) = ap two d ∙ at-place next t v ∙ sym (at-place f t v) ∙ ap one (sym d)
-      go (no d) = other next t v i d ∙ other f (suc t) (suc v) i h ∙ sym (other f t v i d)
+      go (no d) = other next t v i d ∙ other f (suc t) w i h ∙ sym (other f t v i d)
 
   as-next : (i : ℕ) → (i ≡ t → ⊥) → two i ≡ next i
   as-next i h = other next t v i h
 
-  at-next : two (suc t) ≡ suc v
-  at-next = as-next (suc t) (λ e. omega arith) ∙ at-place f (suc t) (suc v)
+  at-next : two (suc t) ≡ w
+  at-next = as-next (suc t) (λ e. omega arith) ∙ at-place f (suc t) w
 
   -- from each to both
   pub together : Steady one n → Steady next n → Steady two n
   together S T = record {
     first = as-one 0 (λ e. omega arith) ∙ S .first;
-    pairs = λ b w a lt ka kb. go a b lt w ka kb (ℕ-discrete a (suc t)) (ℕ-discrete b (suc t)) (ℕ-discrete a t);
+    pairs = λ b u a lt ka kb. go a b lt u ka kb (ℕ-discrete a (suc t)) (ℕ-discrete b (suc t)) (ℕ-discrete a t);
   }
     where
       -- neither place is t
       far : (a b : ℕ) → a < b → b < n → (a ≡ t → ⊥) → (b ≡ t → ⊥) → two a < none → two b < none → Follow (two a) (two b) (b - a)
-      far a b lt w p q ka kb =
+      far a b lt u p q ka kb =
           let x = as-next a p in
           let y = as-next b q in
-          rw (x, y) (follow-up next n T a b (rw x at ka) (rw y at kb) (omega arith) w)
+          rw (x, y) (follow-up next n T a b (rw x at ka) (rw y at kb) (omega arith) u)
 
       go : (a b : ℕ) → a < b → b < n → two a < none → two b < none → Dec (a ≡ suc t) → Dec (b ≡ suc t) → Dec (a ≡ t) → Follow (two a) (two b) (b - a)
-      go a b lt w ka kb (yes x) y z = far a b lt w (λ e. omega arith) (λ e. omega arith) ka kb
-      go a b lt w ka kb (no x) (no y) z =
+      go a b lt u ka kb (yes x) y z = far a b lt u (λ e. omega arith) (λ e. omega arith) ka kb
+      go a b lt u ka kb (no x) (no y) z =
           let p = as-one a x in
           let q = as-one b y in
-          rw (p, q) (follow-up one n S a b (rw p at ka) (rw q at kb) (omega arith) w)
-      go a b lt w ka kb (no x) (yes y) (no z) = far a b lt w z (λ e. omega arith) ka kb
-      go a b lt w ka kb (no x) (yes y) (yes z) =
+          rw (p, q) (follow-up one n S a b (rw p at ka) (rw q at kb) (omega arith) u)
+      go a b lt u ka kb (no x) (yes y) (no z) = far a b lt u z (λ e. omega arith) ka kb
+      go a b lt u ka kb (no x) (yes y) (yes z) =
           let h : Follow (two t) (two (suc t)) (suc t - t) = rw (at-next, at-place next t v) (record { up = omega arith; slow = omega arith }) in
           subst (λ (j : ℕ). Follow (two j) (two b) (b - j)) (sym z) (subst (λ (j : ℕ). Follow (two t) (two j) (j - t)) (sym y) h)
 
   -- from both to each
-  pub to-one : (f (suc t) < none → f (suc t) ≡ suc v) → Steady two n → Steady one n
-  to-one g S = steady-less one two n (sym (as-one 0 (λ e. omega arith)) ∙ S .first) (λ i w k. go i k (ℕ-discrete i (suc t))) S
+  pub to-one : (f (suc t) < none → f (suc t) ≡ w) → Steady two n → Steady one n
+  to-one g S = steady-less one two n (sym (as-one 0 (λ e. omega arith)) ∙ S .first) (λ i u k. go i k (ℕ-discrete i (suc t))) S
     where
       go : (i : ℕ) → one i < none → Dec (i ≡ suc t) → one i ≡ two i
       go i k (no d) = sym (as-one i d)
@@ -68,10 +68,10 @@ module _ (f : ℕ → ℕ) (n t v : ℕ) (l : suc t < n) where
           o ∙ g (rw o at k) ∙ sym at-next ∙ ap two (sym d)
 
   pub to-next : f 0 ≡ 0 → (f t < none → f t ≡ v) → Steady two n → Steady next n
-  to-next z g S = steady-less next two n (other f (suc t) (suc v) 0 (λ e. omega arith) ∙ z) (λ i w k. go i k (ℕ-discrete i t)) S
+  to-next z g S = steady-less next two n (other f (suc t) w 0 (λ e. omega arith) ∙ z) (λ i u k. go i k (ℕ-discrete i t)) S
     where
       go : (i : ℕ) → next i < none → Dec (i ≡ t) → next i ≡ two i
       go i k (no d) = sym (as-next i d)
       go i k (yes d) =
-          let o : next i ≡ f t = other f (suc t) (suc v) i (λ e. omega arith) ∙ ap f d in
+          let o : next i ≡ f t = other f (suc t) w i (λ e. omega arith) ∙ ap f d in
           o ∙ g (rw o at k) ∙ sym (at-place next t v) ∙ ap two (sym d)

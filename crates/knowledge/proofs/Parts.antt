@@ -1,12 +1,13 @@
 -- Where the components' runs lie, and that a run read from its own part tells the same.
 -- Assumes nothing.
-use mathlib.Core.Path.{_≡_, refl, sym, ap, _∙_}
-use mathlib.Core.Bool.{Bool, true, false, _&&_}
+use mathlib.Core.Path.{_≡_, refl, sym, ap, ap₂, _∙_}
+use mathlib.Core.Bool.{Bool, true, false, not, cond, _&&_, _||_}
 use mathlib.Core.List.{List, [], _∷_}
 use Prim.Native.Nat.{ℕ, zero, suc, _+_, _-_, _*_, _≤_, _<_}
 use native.Mathlib.Nat.{suc-mul, mul-le-mul-right}
 use native.Mathlib.Numerals.{add-one}
 use native.Mathlib.Omega.{arith}
+use lib.Dec.{ltb, eqb}
 use lib.ListN.{length, getD, take, drop, length-take, length-drop}
 use lib.Seq.{getD-take, getD-drop}
 use Rattle.kleene.specs.Truth.{unknown, true3, false3}
@@ -14,9 +15,9 @@ use Rattle.mtl.specs.Algebra.{two, all}
 use Rattle.decide.specs.Laws.{agree, same}
 use Rattle.policy.specs.declared.Sizes.{Sizes}
 use Rattle.knowledge.specs.Knowledge.{none, number, noted, valued, sound}
-use Rattle.knowledge.specs.Run.{cell, run-of, held, follow, steady, Steady, rises, Rises, level, Flat, told, word-sound}
+use Rattle.knowledge.specs.Run.{cell, run-of, held, follow, steady, Steady, rises, Rises, level, Flat, told, put, may, word-sound}
 use Rattle.knowledge.specs.Runs.{steady-decides, rises-decides, level-decides}
-use Rattle.knowledge.proofs.Store.{steady-less}
+use Rattle.knowledge.proofs.Putting.{steady-less}
 
 pub one-run : (c k : ℕ) → (c + 1) * k ≡ c * k + k
 one-run c k = rw add-one (suc-mul c k)
@@ -55,6 +56,14 @@ steady-same f g n l e =
     (λ (S : Steady g n). steady-less f g n (e 0 l ∙ S .first) (λ i h k. e i h) S)
     (steady-decides f n))
     (steady-decides g n)
+
+pub may-same : (f g : ℕ → ℕ) (n p v : ℕ) → p < n → ((i : ℕ) → i < n → f i ≡ g i) → may f n p v ≡ may g n p v
+unfolding may put
+may-same f g n p v l e =
+    ap₂ (λ (x : ℕ) (b : Bool). (ltb v none && (not (ltb x none) || eqb x v)) && b) (e p l) (steady-same (put f p v) (put g p v) n (omega arith) alike)
+  where
+    alike : (i : ℕ) → i < n → put f p v i ≡ put g p v i
+    alike i h = ap (cond (eqb i p) v) (e i h)
 
 rises-less : (f g : ℕ → ℕ) (m t : ℕ) → t < m → ((i : ℕ) → i < suc m → f i ≡ g i) → Rises f t → Rises g t
 rises-less f g m t l e R =

@@ -9,6 +9,8 @@ use Rattle.kleene.specs.Truth.{Truth, unknown, true3, false3, codeOf}
 use Rattle.mtl.specs.Algebra.{two, any, all}
 use Rattle.bits.specs.Bits.{bit}
 use Rattle.policy.specs.declared.Sizes.{Sizes}
+use Rattle.message.specs.declared.Event.{Event}
+use Rattle.message.specs.Fixes.{Message}
 use Rattle.knowledge.specs.Knowledge.{Knowledge, none, point-known}
 
 -- the run of a list
@@ -22,6 +24,10 @@ run-of l m c p = getD l (c * suc m + p) none
 -- the knowledge in two lists
 abbrev pub held : List ℕ → List ℕ → Knowledge
 held numbers facts = record { numbers = numbers; facts = facts }
+
+-- an event and its component
+abbrev pub sent : ℕ → Event → Message
+sent component event = record { component = component; event = event }
 
 -- a number v, and a number w that stands d places later: "0 ≤ later − earlier ≤ b − a"
 unfoldable pub follow : ℕ → ℕ → ℕ → Bool

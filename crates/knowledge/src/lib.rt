@@ -2,17 +2,17 @@
 use message::Event;
 use policy::Sizes;
 ghost use mathlib.Core.Path.{_≡_};
-ghost use Prim.Native.Nat.{ℕ, suc, _+_, _*_, _≤_, _<_};
-ghost use lib.ListN.{length, getD};
+ghost use Prim.Native.Nat.{ℕ, suc, _+_, _-_, _*_, _^_, _≤_, _<_};
+ghost use mathlib.Core.Bool.{_&&_};
+ghost use lib.Bits.{bitOr};
+ghost use lib.ListN.{length, getD, set};
 ghost use Rattle.kleene.specs.Truth.{codeOf, valueOf, or3};
 ghost use Rattle.rows.specs.Over.{Over};
-ghost use mathlib.Core.Bool.{_&&_};
-ghost use Prim.Native.Nat.{_^_};
 ghost use Rattle.mtl.specs.Algebra.{two, all};
 ghost use Rattle.message.specs.Fixes.{Fits};
 ghost use Rattle.knowledge.specs.Knowledge.{none, Sized, Sound, sound, admits, stored};
 ghost use Rattle.knowledge.specs.Laws.{Limits};
-ghost use Rattle.knowledge.specs.Run.{cell, run-of, held, follow, steady, Steady, Steady-runs, told, gap, may, Next, Previous, Point-row, word-sound, words-agree};
+ghost use Rattle.knowledge.specs.Run.{cell, run-of, held, sent, follow, steady, Steady, Steady-runs, told, gap, may, Next, Previous, Point-row, word-sound, words-agree};
 
 // A sequence number that is not known.
 const NONE: u16 = 65535;
@@ -201,6 +201,110 @@ fn do_words_agree(known: u32, old: u32, named: u32, values: u32) -> bool
     ensures { λ r. ⌜ r ≡ words-agree known old named values ⌝ }
 {
     known & named & (old ^ values) == 0
+}
+
+// May an observation's two numbers be stored in the run? Each is tried by itself, and that decides both.
+fn may_observe(run: &[u16], minute: usize, number: u16) -> bool
+    requires { ⌜ (length (now run) ≤ 1025) × Steady (cell (now run)) (length (now run)) × (suc minute < length (now run)) × (1 ≤ number) ⌝ }
+    ensures { λ r. ⌜ r ≡ (may (cell (now (run .entry))) (length (now (run .entry))) (suc minute) number && may (cell (now (run .entry))) (length (now (run .entry))) minute (number - 1)) ⌝ }
+{
+    if !may_store(run, minute + 1, number) {
+        return false;
+    }
+    may_store(run, minute, number - 1)
+}
+
+// Does an observation go with its component's run and with its minute's facts?
+fn admits_observation(
+    run: &[u16],
+    facts: &[u32],
+    minute: usize,
+    number: u16,
+    named: u32,
+    values: u32,
+) -> bool
+    requires { ⌜ (length (now run) ≤ 1025) × Steady (cell (now run)) (length (now run)) × (suc minute < length (now run)) × (1 ≤ number) × (2 * minute + 1 < length (now facts)) ⌝ }
+    ensures { λ r. ⌜ r ≡ (words-agree (getD (now (facts .entry)) (2 * minute) 0) (getD (now (facts .entry)) (2 * minute + 1) 0) named values && (may (cell (now (run .entry))) (length (now (run .entry))) (suc minute) number && may (cell (now (run .entry))) (length (now (run .entry))) minute (number - 1))) ⌝ }
+{
+    if !do_words_agree(facts[2 * minute], facts[2 * minute + 1], named, values) {
+        return false;
+    }
+    may_observe(run, minute, number)
+}
+
+// Does the message go with the knowledge, or is it a conflict (01: clash)?
+pub fn admits_message(
+    sizes: Sizes,
+    numbers: &[u16],
+    facts: &[u32],
+    component: usize,
+    event: Event,
+) -> bool
+    requires { ⌜ Limits sizes × Sized sizes (held (now numbers) (now facts)) × Sound sizes (held (now numbers) (now facts)) × Fits sizes (sent component event) ⌝ }
+    ensures { λ r. ⌜ r ≡ admits sizes (held (now (numbers .entry)) (now (facts .entry))) (sent component event) ⌝ }
+{
+    let at = component * (sizes.minutes + 1);
+    let end = at + (sizes.minutes + 1);
+    match event {
+        Event::Observation {
+            minute,
+            number,
+            named,
+            values,
+        } => admits_observation(
+            &numbers[at..end],
+            facts,
+            minute as usize,
+            number,
+            named,
+            values,
+        ),
+        Event::Alive { minute, number } => may_store(&numbers[at..end], minute as usize, number),
+    }
+}
+
+// Stores an observation's two numbers.
+fn store_numbers(numbers: &mut [u16], place: usize, number: u16)
+    requires { ⌜ (suc place < length (now numbers)) × (1 ≤ number) ⌝ }
+    ensures { λ _. ⌜ now (numbers .exit) ≡ set (set (now (numbers .entry)) (suc place) number) place (number - 1) ⌝ }
+{
+    numbers[place + 1] = number;
+    numbers[place] = number - 1;
+}
+
+// Stores what an observation says of its minute's propositions.
+fn store_facts(facts: &mut [u32], place: usize, named: u32, values: u32)
+    requires { ⌜ place + 1 < length (now facts) ⌝ }
+    ensures { λ _. ⌜ now (facts .exit) ≡ set (set (now (facts .entry)) place (bitOr (getD (now (facts .entry)) place 0) named)) (place + 1) (bitOr (getD (now (facts .entry)) (place + 1) 0) values) ⌝ }
+{
+    let known = facts[place];
+    let old = facts[place + 1];
+    facts[place] = known | named;
+    facts[place + 1] = old | values;
+}
+
+// Stores what the message fixes, and nothing else.
+pub fn store(sizes: Sizes, numbers: &mut [u16], facts: &mut [u32], component: usize, event: Event)
+    requires { ⌜ Limits sizes × Sized sizes (held (now numbers) (now facts)) × Fits sizes (sent component event) ⌝ }
+    ensures { λ _. ⌜ now (numbers .exit) ≡ stored sizes (held (now (numbers .entry)) (now (facts .entry))) (sent component event) .numbers ⌝ }
+    ensures { λ _. ⌜ now (facts .exit) ≡ stored sizes (held (now (numbers .entry)) (now (facts .entry))) (sent component event) .facts ⌝ }
+{
+    let at = component * (sizes.minutes + 1);
+    match event {
+        Event::Observation {
+            minute,
+            number,
+            named,
+            values,
+        } => {
+            let t = minute as usize;
+            store_numbers(numbers, at + t, number);
+            store_facts(facts, 2 * t, named, values);
+        }
+        Event::Alive { minute, number } => {
+            numbers[at + minute as usize] = number;
+        }
+    }
 }
 
 // Fills the cells below m with "false".

@@ -1,4 +1,4 @@
--- `knowledge::may_store` meets its contract: a known number is its own answer, and for a place that was not known `Store` has each return.
+-- `knowledge::may_store` meets its contract: a known number is its own answer, and for a place that was not known `Putting` has each return.
 -- Assumes nothing.
 use borrow.Author.Needs.{needs}
 use borrow.Author.Tests.{not-true, not-false}
@@ -13,7 +13,7 @@ use Rattle.decide.specs.Laws.{is-false, fails, agree, same, equal}
 use Rattle.knowledge.specs.Knowledge.{none}
 use Rattle.knowledge.specs.Run.{cell, Follow, May}
 use Rattle.knowledge.specs.Runs.{follow-decides, may-decides}
-use Rattle.knowledge.proofs.Store.{again, steady-new, needs-below, needs-above}
+use Rattle.knowledge.proofs.Putting.{again, steady-new, needs-below, needs-above}
 use Rattle.knowledge.proofs.may_store.Statement.{statement}
 use Rattle.knowledge.proofs.may_store.Tie as tie
 

@@ -10,7 +10,7 @@ use lib.ListN.{length, getD, replicate, length-replicate}
 use Rattle.kleene.specs.Truth.{codeOf}
 use Rattle.rows.specs.Laws.{zeros}
 use Rattle.knowledge.specs.Run.{cell, run-of, Steady, told}
-use Rattle.knowledge.proofs.Store.{steady-less}
+use Rattle.knowledge.proofs.Putting.{steady-less}
 use Rattle.knowledge.proofs.Parts.{part, part-long, part-at, one-run, room, told-same}
 use Rattle.knowledge.proofs.Points.{points, all-points, one-more-run}
 use Rattle.knowledge.proofs.point_row.Statement.{statement}
