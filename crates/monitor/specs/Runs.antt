@@ -31,13 +31,13 @@ use Rattle.knowledge.specs.Worlds.{point-so, world-so}
 use Rattle.valuation.specs.Sheets.{value}
 use Rattle.monitor.specs.declared.Answer.{Answer}
 use Rattle.monitor.specs.declared.Answer.the-variants.{Done, Received, Refused}
-use Rattle.monitor.specs.State.{State, Outcome, Sized, sized, opened, settle, take-message, refused, guard, afterwards, receive, Receive, run, Taken, took, accepted-from}
+use Rattle.monitor.specs.State.{State, Outcome, Sized, sizes-fit, sized, opened, settle, take-message, refused, guard, afterwards, receive, Receive, run, Taken, took, accepted-from}
 use Rattle.monitor.specs.Demands.{shown, rule-line, sizesOf, Some-trace, Plain, kept, broken, Sends}
 use Rattle.monitor.specs.Invariant.{Kept-up, long-of, relabel, opened-up, next-up}
 use Rattle.monitor.specs.Keeping.{is-over, sheets-over, shown-at, verdict-point, marked, agrees-law, stands}
 
 pub sized-law : (p : Policy) (x : State) → (sized p x ≡ true) ↔ Sized p x
-unfolding sized
+unfolding sizes-fit
 sized-law p x = (there, back)
   where
     there : sized p x ≡ true → Sized p x

@@ -15,7 +15,7 @@ use Rattle.knowledge.specs.Knowledge.{noted, valued, number, is-point, is-none,
 use Rattle.valuation.specs.Sheets.{valuation-of, verdicts-of, standing}
 use Rattle.monitor.specs.declared.Answer.{Answer}
 use Rattle.monitor.specs.declared.Answer.the-variants.{Done, Received, Refused}
-use Rattle.monitor.specs.State.{State, sized, opened, open-state, receive, Receive, run, after}
+use Rattle.monitor.specs.State.{State, sizes-fit, opened, open-state, receive, Receive, run, after}
 use Rattle.monitor.specs.Proved.{opens}
 
 -- "mark 0 at some time in the last 2 minutes"
@@ -96,7 +96,7 @@ module _ (s : List ℕ) (x : State) (e : open-state s x .state ≡ opened (polic
   reply-from bs b = ap (λ (y : State). receive s (run s y (map Receive bs)) b .answer) e
 
 pub small-shift : (x y : State) → open-state K x .answer ≡ Done → open-state U y .answer ≡ Done → Small-shift x y
-unfolding digit below expanded bit since until deep reading lineLength fieldsAt allowed operandsGood goodLine meaning formulaOf subformulaOf subformulaAt headingAnswer offset lineAnswer linesAnswer linesUpTo subformulasOf ruleLines rulesUpTo closingAnswer policy-answer policyOf componentOf minuteOf numberOf namedOf packedOf valuesOf lengthOf fieldsOf goodAlive goodObservation allWritten goodFields message-answer eventIn meaningOf noted valued number is-point is-none sound fresh stored free admits valuation-of verdicts-of standing sized opened receive
+unfolding digit below expanded bit since until deep reading lineLength fieldsAt allowed operandsGood goodLine meaning formulaOf subformulaOf subformulaAt headingAnswer offset lineAnswer linesAnswer linesUpTo subformulasOf ruleLines rulesUpTo closingAnswer policy-answer policyOf componentOf minuteOf numberOf namedOf packedOf valuesOf lengthOf fieldsOf goodAlive goodObservation allWritten goodFields message-answer eventIn meaningOf noted valued number is-point is-none sound fresh stored free admits valuation-of verdicts-of standing sizes-fit opened receive
 small-shift x y d e =
     let k : open-state K x .state ≡ opened (policyOf K) = opens K x d .state in
     let u : open-state U y .state ≡ opened (policyOf U) = opens U y e .state in
