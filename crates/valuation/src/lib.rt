@@ -1,1 +1,173 @@
 // The valuation (01: the work sheet) and the verdicts (01: the verdict sheet).
+// A row is worked into an array of its own from the rows of the subformulas that it names, a constant time a minute whatever the interval.
+ghost use mathlib.Core.Path.{_≡_};
+ghost use mathlib.Core.Bool.{cond};
+ghost use Prim.Native.Nat.{ℕ, _+_, _-_, _*_, _≤_, _<_};
+ghost use lib.ListN.{length, getD, take, drop};
+ghost use lib.Dec.{leb};
+ghost use Rattle.kleene.specs.Truth.{Truth, codeOf, valueOf, true3, not3, or3};
+ghost use Rattle.kleene.specs.Rank.{rankOf};
+ghost use Rattle.mtl.specs.Algebra.{three};
+ghost use Rattle.mtl.specs.Reading.{World, point, since, until};
+ghost use Rattle.valuation.specs.Rows.{Shows, Row};
+ghost use Rattle.valuation.specs.Indexes.{begun, broken, moved, far, Last, First, Lasts, Firsts};
+
+// The nearest minute at which a truth is surely so, and at which it may be so.
+pub struct Nearest {
+    pub sure: usize,
+    pub may: usize,
+}
+
+// The nearest minutes once a minute of this rank is passed, whose index is here.
+fn note(nearest: Nearest, here: usize, rank: u8) -> Nearest
+    ensures { λ r. ⌜ (r .sure ≡ moved 2 rank here (nearest .sure)) × (r .may ≡ moved 1 rank here (nearest .may)) ⌝ }
+{
+    if 2 <= rank {
+        return Nearest {
+            sure: here,
+            may: here,
+        };
+    }
+    if 1 <= rank {
+        return Nearest {
+            sure: nearest.sure,
+            may: here,
+        };
+    }
+    nearest
+}
+
+// The code of a value that is surely true, or may be true.
+fn code(sure: bool, may: bool) -> u8
+    ensures { λ r. ⌜ ((x : Truth) → sure ≡ leb 2 (rankOf x) → may ≡ leb 1 (rankOf x) → r ≡ codeOf x) ⌝ }
+{
+    if sure {
+        return 1;
+    }
+    if may {
+        return 0;
+    }
+    2
+}
+
+// ---- since
+
+// Passes the begin that comes into the interval at minute t, if there is one.
+fn since_begin(points: &[u8], right: &[u8], lower: usize, t: usize, begins: Nearest) -> Nearest
+    requires { ⌜ (t < length (now points)) × (length (now right) ≡ length (now points)) ⌝ }
+    ensures { λ r. ⌜ ((e β : ℕ → Truth) → Shows (now (points .entry)) e → Shows (now (right .entry)) β → Lasts (begun e β) (t - lower) begins → Lasts (begun e β) (t + 1 - lower) r) ⌝ }
+{
+    if t < lower {
+        return begins;
+    }
+    let j = t - lower;
+    note(begins, j + 1, kleene::both(points[j], right[j]))
+}
+
+// t - upper, and 0 where it would lie before minute 0.
+fn minus(t: usize, upper: usize) -> usize
+    ensures { λ r. ⌜ r ≡ t - upper ⌝ }
+{
+    if t < upper { 0 } else { t - upper }
+}
+
+// Does the since reach a threshold: is the last begin that does in the interval, which starts here, with no break after it?
+fn since_reaches(start: usize, begin: usize, stop: usize) -> bool
+    ensures { λ r. ⌜ ((w : World Truth) (α β : ℕ → Truth) (lower upper t k : ℕ) → start ≡ t - upper → 0 < k → k ≤ 2 → Last k (begun (point three w) β) (t + 1 - lower) begin → Last (3 - k) (broken (point three w) α) (t + 1) stop → r ≡ leb k (rankOf (since three w α β lower upper t))) ⌝ }
+{
+    if begin <= start {
+        return false;
+    }
+    if begin < stop {
+        return false;
+    }
+    true
+}
+
+// The value at a minute that is passed, whose interval starts here.
+fn since_value(start: usize, begins: Nearest, breaks: Nearest) -> u8
+    ensures { λ r. ⌜ ((w : World Truth) (α β : ℕ → Truth) (lower upper t : ℕ) → start ≡ t - upper → Lasts (begun (point three w) β) (t + 1 - lower) begins → Lasts (broken (point three w) α) (t + 1) breaks → r ≡ codeOf (since three w α β lower upper t)) ⌝ }
+{
+    let sure = since_reaches(start, begins.sure, breaks.may);
+    let may = since_reaches(start, begins.may, breaks.sure);
+    code(sure, may)
+}
+
+// The row of `left since right`: going up, the last begins up to t - lower and the last breaks up to t decide the value at t.
+pub fn since_row(points: &[u8], left: &[u8], right: &[u8], lower: usize, upper: usize) -> [u8; 1024]
+    requires { ⌜ (length (now points) ≤ 1024) × (length (now left) ≡ length (now points)) × (length (now right) ≡ length (now points)) ⌝ }
+    ensures { λ r. ⌜ ((w : World Truth) (α β : ℕ → Truth) → Shows (now (points .entry)) (point three w) → Shows (now (left .entry)) α → Shows (now (right .entry)) β → Row (length (now (points .entry))) (since three w α β lower upper) r) ⌝ }
+{
+    let mut row = [0u8; 1024];
+    let mut begins = Nearest { sure: 0, may: 0 };
+    let mut breaks = Nearest { sure: 0, may: 0 };
+    let mut t: usize = 0;
+    while t < points.len() {
+        begins = since_begin(points, right, lower, t, begins);
+        breaks = note(breaks, t + 1, kleene::apart(points[t], left[t]));
+        row[t] = since_value(minus(t, upper), begins, breaks);
+        t += 1;
+    }
+    row
+}
+
+// ---- until
+
+// The rank of the begin at minute j, which may lie past the end.
+fn until_begin(points: &[u8], right: &[u8], j: usize) -> u8
+    requires { ⌜ length (now right) ≡ length (now points) ⌝ }
+    ensures { λ r. ⌜ ((e β : ℕ → Truth) → Shows (now (points .entry)) e → Shows (now (right .entry)) β → r ≡ begun e β j) ⌝ }
+{
+    if j < points.len() {
+        return kleene::both(points[j], right[j]);
+    }
+    1
+}
+
+// Does the until reach a threshold: is the first begin that does in the interval, which ends here, with no break before it?
+fn until_reaches(end: usize, begin: usize, stop: usize) -> bool
+    ensures { λ r. ⌜ ((w : World Truth) (α β : ℕ → Truth) (lower upper t k : ℕ) → end ≡ t + upper → end < far → 0 < k → k ≤ 2 → First k (begun (point three w) β) (t + lower) begin → First (3 - k) (broken (point three w) α) t stop → r ≡ leb k (rankOf (until three w α β lower upper t))) ⌝ }
+{
+    if end < begin {
+        return false;
+    }
+    if stop < begin {
+        return false;
+    }
+    true
+}
+
+// The value at a minute that is passed, whose interval ends here.
+fn until_value(end: usize, begins: Nearest, breaks: Nearest) -> u8
+    ensures { λ r. ⌜ ((w : World Truth) (α β : ℕ → Truth) (lower upper t : ℕ) → end ≡ t + upper → end < far → Firsts (begun (point three w) β) (t + lower) begins → Firsts (broken (point three w) α) t breaks → r ≡ codeOf (until three w α β lower upper t)) ⌝ }
+{
+    let sure = until_reaches(end, begins.sure, breaks.may);
+    let may = until_reaches(end, begins.may, breaks.sure);
+    code(sure, may)
+}
+
+// No minute of the window is this far.
+const FAR: usize = 4096;
+
+// The row of `left until right`: going down, the first begins from t + lower on and the first breaks from t on decide the value at t. From
+// the end on everything is unknown, so that there a begin and a break may be, and none is sure.
+pub fn until_row(points: &[u8], left: &[u8], right: &[u8], lower: usize, upper: usize) -> [u8; 1024]
+    requires { ⌜ (length (now points) ≤ 1024) × (length (now left) ≡ length (now points)) × (length (now right) ≡ length (now points)) × (lower ≤ 1023) × (upper ≤ 1023) ⌝ }
+    ensures { λ r. ⌜ ((w : World Truth) (α β : ℕ → Truth) → Shows (now (points .entry)) (point three w) → Shows (now (left .entry)) α → Shows (now (right .entry)) β → Row (length (now (points .entry))) (until three w α β lower upper) r) ⌝ }
+{
+    let mut row = [0u8; 1024];
+    let mut t = points.len();
+    let mut begins = Nearest {
+        sure: FAR,
+        may: t + lower,
+    };
+    let mut breaks = Nearest { sure: FAR, may: t };
+    while 0 < t {
+        t -= 1;
+        let j = t + lower;
+        begins = note(begins, j, until_begin(points, right, j));
+        breaks = note(breaks, t, kleene::apart(points[t], left[t]));
+        row[t] = until_value(t + upper, begins, breaks);
+    }
+    row
+}
