@@ -33,3 +33,7 @@ module _ (p l : List ℕ) (e f : ℕ → Truth) (P : Shows p e) (L : Shows l f) 
 -- an array that was filled over 0
 pub filled : (m : ℕ) (f : ℕ → Truth) (r : List ℕ) → Over (λ t. codeOf (f t)) 0 m (replicate 1024 0) r → Row m f r
 filled m f r o = record { long = o .long ∙ length-replicate {A = ℕ} 1024 0; codes = λ t h. o .inside t (omega arith) h }
+
+-- a row of values is a row of equal values
+pub read-as : (m : ℕ) (f g : ℕ → Truth) (r : List ℕ) → ((t : ℕ) → f t ≡ g t) → Row m f r → Row m g r
+read-as m f g r e row = record { long = row .long; codes = λ t h. row .codes t h ∙ ap codeOf (e t) }

@@ -1,5 +1,8 @@
 // The valuation (01: the work sheet) and the verdicts (01: the verdict sheet).
 // A row is worked into an array of its own from the rows of the subformulas that it names, a constant time a minute whatever the interval.
+use mtl::Formula;
+use policy::Policy;
+use policy::Sizes;
 ghost use mathlib.Core.Path.{_≡_};
 ghost use mathlib.Core.Bool.{cond};
 ghost use Prim.Native.Nat.{ℕ, _+_, _-_, _*_, _≤_, _<_};
@@ -8,8 +11,9 @@ ghost use lib.Dec.{leb};
 ghost use Rattle.kleene.specs.Truth.{Truth, codeOf, valueOf, true3, not3, or3};
 ghost use Rattle.kleene.specs.Rank.{rankOf};
 ghost use Rattle.mtl.specs.Algebra.{three};
-ghost use Rattle.mtl.specs.Reading.{World, point, since, until};
-ghost use Rattle.valuation.specs.Rows.{Shows, Row};
+ghost use Rattle.mtl.specs.Reading.{World, point, since, until, meaning};
+ghost use Rattle.knowledge.specs.Knowledge.{Knowledge, fact, world};
+ghost use Rattle.valuation.specs.Rows.{Shows, Row, run, Rows, Points, Workable};
 ghost use Rattle.valuation.specs.Indexes.{begun, broken, moved, far, Last, First, Lasts, Firsts};
 
 // The nearest minute at which a truth is surely so, and at which it may be so.
@@ -170,4 +174,123 @@ pub fn until_row(points: &[u8], left: &[u8], right: &[u8], lower: usize, upper: 
         row[t] = until_value(t + upper, begins, breaks);
     }
     row
+}
+
+// ---- the other rows
+
+pub fn true_row() -> [u8; 1024]
+    ensures { λ r. ⌜ ((m : ℕ) → m ≤ 1024 → Row m (λ t. true3) r) ⌝ }
+{
+    [1u8; 1024]
+}
+
+// "A mark is its fact, else unknown": from the minute's two words, which propositions are known and their values.
+fn fact_code(known: u32, values: u32, proposition: u8) -> u8
+    requires { ⌜ proposition < 32 ⌝ }
+    ensures { λ r. ⌜ ((k : Knowledge) (t : ℕ) → known ≡ getD (k .facts) (2 * t) 0 → values ≡ getD (k .facts) (2 * t + 1) 0 → r ≡ codeOf (fact k proposition t)) ⌝ }
+{
+    let place = proposition as u32;
+    if (known >> place) % 2 == 0 {
+        return 0;
+    }
+    if (values >> place) % 2 == 0 {
+        return 2;
+    }
+    1
+}
+
+pub fn proposition_row(facts: &[u32], proposition: u8, minutes: usize) -> [u8; 1024]
+    requires { ⌜ (minutes ≤ 1024) × (length (now facts) ≡ 2 * minutes) × (proposition < 32) ⌝ }
+    ensures { λ r. ⌜ ((k : Knowledge) → k .facts ≡ now (facts .entry) → Row minutes (fact k proposition) r) ⌝ }
+{
+    let mut row = [0u8; 1024];
+    let mut t: usize = 0;
+    while t < minutes {
+        let at = 2 * t;
+        row[t] = fact_code(facts[at], facts[at + 1], proposition);
+        t += 1;
+    }
+    row
+}
+
+pub fn not_row(operand: &[u8]) -> [u8; 1024]
+    requires { ⌜ length (now operand) ≤ 1024 ⌝ }
+    ensures { λ r. ⌜ ((f : ℕ → Truth) → Shows (now (operand .entry)) f → Row (length (now (operand .entry))) (λ t. not3 (f t)) r) ⌝ }
+{
+    let mut row = [0u8; 1024];
+    let mut t: usize = 0;
+    while t < operand.len() {
+        row[t] = kleene::not(operand[t]);
+        t += 1;
+    }
+    row
+}
+
+pub fn or_row(left: &[u8], right: &[u8]) -> [u8; 1024]
+    requires { ⌜ (length (now left) ≤ 1024) × (length (now right) ≡ length (now left)) ⌝ }
+    ensures { λ r. ⌜ ((f g : ℕ → Truth) → Shows (now (left .entry)) f → Shows (now (right .entry)) g → Row (length (now (left .entry))) (λ t. or3 (f t) (g t)) r) ⌝ }
+{
+    let mut row = [0u8; 1024];
+    let mut t: usize = 0;
+    while t < left.len() {
+        row[t] = kleene::or(left[t], right[t]);
+        t += 1;
+    }
+    row
+}
+
+// ---- the work sheet
+
+// Row i of those that stand one after another.
+fn run_of(rows: &[u8], i: u8, minutes: usize) -> &[u8]
+    requires { ⌜ i * minutes + minutes ≤ length (now rows) ⌝ }
+    ensures { λ r. ⌜ now r ≡ run minutes (now (rows .entry)) i ⌝ }
+{
+    let at = i as usize * minutes;
+    let end = at + minutes;
+    &rows[at..end]
+}
+
+// The row of a subformula, from the rows of earlier ones.
+fn row_of(
+    sizes: Sizes,
+    formula: Formula,
+    points: &[u8],
+    facts: &[u32],
+    earlier: &[u8],
+) -> [u8; 1024]
+    requires { ⌜ Workable sizes formula (now points) (now facts) (now earlier) ⌝ }
+    ensures { λ r. ⌜ ((k : Knowledge) (v : ℕ → ℕ → Truth) → k .facts ≡ now (facts .entry) → Points sizes k (now (points .entry)) → Rows (sizes .minutes) (now (earlier .entry)) v → Row (sizes .minutes) (meaning three (world sizes k) v formula) r) ⌝ }
+{
+    let minutes = sizes.minutes;
+    match formula {
+        Formula::True => true_row(),
+        Formula::Proposition(proposition) => proposition_row(facts, proposition, minutes),
+        Formula::Not(i) => not_row(run_of(earlier, i, minutes)),
+        Formula::Or(i, j) => or_row(run_of(earlier, i, minutes), run_of(earlier, j, minutes)),
+        Formula::Since {
+            left,
+            right,
+            lower,
+            upper,
+        } => since_row(
+            &points[0..minutes],
+            run_of(earlier, left, minutes),
+            run_of(earlier, right, minutes),
+            lower as usize,
+            upper as usize,
+        ),
+        Formula::Until {
+            left,
+            right,
+            lower,
+            upper,
+        } => until_row(
+            &points[0..minutes],
+            run_of(earlier, left, minutes),
+            run_of(earlier, right, minutes),
+            lower as usize,
+            upper as usize,
+        ),
+    }
 }
