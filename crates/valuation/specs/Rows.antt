@@ -13,10 +13,9 @@ use Rattle.knowledge.specs.Knowledge.{Knowledge, point-known}
 abbrev pub Shows : List ℕ → (ℕ → Truth) → Type 0
 Shows l f = (t : ℕ) → valueOf (getD l t 0) ≡ f t
 
--- an array of a row's largest size, whose first m cells are the codes of f's values
-pub record Row (m : ℕ) (f : ℕ → Truth) (r : List ℕ) : Type 0 where
-  pub long : length r ≡ 1024
-  pub codes : (t : ℕ) → t < m → getD r t 0 ≡ codeOf (f t)
+-- the first m cells are the codes of f's values
+abbrev pub Row : ℕ → (ℕ → Truth) → List ℕ → Type 0
+Row m f r = (t : ℕ) → t < m → getD r t 0 ≡ codeOf (f t)
 
 -- row i of those that stand one after another
 abbrev pub run : ℕ → List ℕ → ℕ → List ℕ

@@ -4,15 +4,18 @@ use mtl::Formula;
 use policy::Policy;
 use policy::Sizes;
 ghost use mathlib.Core.Path.{_≡_};
-ghost use mathlib.Core.Bool.{cond};
+ghost use mathlib.Core.List.{_++_};
 ghost use Prim.Native.Nat.{ℕ, _+_, _-_, _*_, _≤_, _<_};
 ghost use lib.ListN.{length, getD, take, drop};
 ghost use lib.Dec.{leb};
 ghost use Rattle.kleene.specs.Truth.{Truth, codeOf, valueOf, true3, not3, or3};
 ghost use Rattle.kleene.specs.Rank.{rankOf};
+ghost use Rattle.rows.specs.Over.{Over};
 ghost use Rattle.mtl.specs.Algebra.{three};
 ghost use Rattle.mtl.specs.Reading.{World, point, since, until, meaning};
 ghost use Rattle.knowledge.specs.Knowledge.{Knowledge, fact, world};
+ghost use Rattle.policy.specs.Proper.{Proper};
+ghost use Rattle.valuation.specs.Sheets.{valuation-of};
 ghost use Rattle.valuation.specs.Rows.{Shows, Row, run, Rows, Points, Workable};
 ghost use Rattle.valuation.specs.Indexes.{begun, broken, moved, far, Last, First, Lasts, Firsts};
 
@@ -292,5 +295,38 @@ fn row_of(
             lower as usize,
             upper as usize,
         ),
+    }
+}
+
+// Writes a row that was worked over a run of the work sheet.
+fn put_row(run: &mut [u8], row: &[u8; 1024])
+    requires { ⌜ length (now run) ≤ 1024 ⌝ }
+    ensures { λ _. ⌜ Over (λ t. getD (now (row .entry)) t 0) 0 (length (now (run .entry))) (now (run .entry)) (now (run .exit)) ⌝ }
+{
+    let mut t: usize = 0;
+    while t < run.len() {
+        run[t] = row[t];
+        t += 1;
+    }
+}
+
+// Works the rows of all subformulas, one after another, from the time points and the facts. The rest of a longer list stays as it was.
+pub fn evaluate(policy: Policy, points: &[u8; 1024], facts: &[u32], valuation: &mut [u8])
+    requires { ⌜ (Proper policy) × (length (now points) ≡ 1024) × (length (now facts) ≡ 2 * policy .sizes .minutes) × (policy .count * policy .sizes .minutes ≤ length (now valuation)) ⌝ }
+    ensures { λ _. ⌜ ((k : Knowledge) → k .facts ≡ now (facts .entry) → Points (policy .sizes) k (now (points .entry)) → now (valuation .exit) ≡ valuation-of policy k ++ drop (policy .count * policy .sizes .minutes) (now (valuation .entry))) ⌝ }
+{
+    let sizes = policy.sizes;
+    let minutes = sizes.minutes;
+    let count = policy.count;
+    let mut at: usize = 0;
+    let mut i: usize = 0;
+    while i < count {
+        let line = policy.subformulas[i];
+        let formula = line.formula;
+        let end = at + minutes;
+        let row = row_of(sizes, formula, points, facts, &valuation[0..at]);
+        put_row(&mut valuation[at..end], &row);
+        at = end;
+        i += 1;
     }
 }
