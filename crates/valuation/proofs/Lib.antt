@@ -5,3 +5,6 @@ pub mod Facts
 pub mod Since
 pub mod Until
 pub mod Work
+pub mod Standing
+pub mod Rules
+pub mod Concluding

@@ -2,3 +2,4 @@
 pub mod Sheets
 pub mod Rows
 pub mod Indexes
+pub mod Verdicts

@@ -15,8 +15,9 @@ ghost use Rattle.mtl.specs.Algebra.{three};
 ghost use Rattle.mtl.specs.Reading.{World, point, since, until, meaning};
 ghost use Rattle.knowledge.specs.Knowledge.{Knowledge, fact, world};
 ghost use Rattle.policy.specs.Proper.{Proper};
-ghost use Rattle.valuation.specs.Sheets.{valuation-of};
+ghost use Rattle.valuation.specs.Sheets.{valuation-of, verdicts-of, standing};
 ghost use Rattle.valuation.specs.Rows.{Shows, Row, run, Rows, Points, Workable};
+ghost use Rattle.valuation.specs.Verdicts.{verdict-code, one-stands, VerdictRow};
 ghost use Rattle.valuation.specs.Indexes.{begun, broken, moved, far, Last, First, Lasts, Firsts};
 
 // The nearest minute at which a truth is surely so, and at which it may be so.
@@ -329,4 +330,61 @@ pub fn evaluate(policy: Policy, points: &[u8; 1024], facts: &[u32], valuation: &
         at = end;
         i += 1;
     }
+}
+
+// ---- the verdict sheet
+
+// The verdict: the value where the minute is known to be a time point, and blank elsewhere.
+fn verdict_code(point: u8, value: u8) -> u8
+    ensures { λ r. ⌜ r ≡ verdict-code point value ⌝ }
+{
+    if point == 1 { value } else { 0 }
+}
+
+// How many verdicts one cell holds: a blank is none.
+fn stands(verdict: u8) -> usize
+    ensures { λ r. ⌜ r ≡ one-stands verdict ⌝ }
+{
+    if verdict == 0 { 0 } else { 1 }
+}
+
+// Writes the verdicts of one rule, whose row is given, and answers how many stand.
+fn verdict_row(points: &[u8], row: &[u8], verdicts: &mut [u8]) -> usize
+    requires { ⌜ (length (now row) ≡ length (now verdicts)) × (length (now verdicts) ≤ length (now points)) ⌝ }
+    ensures { λ r. ⌜ VerdictRow (now (points .entry)) (now (row .entry)) (now (verdicts .entry)) (now (verdicts .exit)) r ⌝ }
+{
+    let mut total: usize = 0;
+    let mut t: usize = 0;
+    while t < verdicts.len() {
+        let verdict = verdict_code(points[t], row[t]);
+        verdicts[t] = verdict;
+        total += stands(verdict);
+        t += 1;
+    }
+    total
+}
+
+// Writes the verdicts of all rules, one after another, and answers how many stand. The rest of a longer list stays as it was.
+pub fn conclude(policy: Policy, points: &[u8; 1024], valuation: &[u8], verdicts: &mut [u8]) -> usize
+    requires { ⌜ (Proper policy) × (length (now points) ≡ 1024) × (policy .count * policy .sizes .minutes ≤ length (now valuation)) × (policy .rules * policy .sizes .minutes ≤ length (now verdicts)) ⌝ }
+    ensures { λ r. ⌜ ((k : Knowledge) → Points (policy .sizes) k (now (points .entry)) → take (policy .count * policy .sizes .minutes) (now (valuation .entry)) ≡ valuation-of policy k → (now (verdicts .exit) ≡ verdicts-of policy k ++ drop (policy .rules * policy .sizes .minutes) (now (verdicts .entry))) × (r ≡ standing (verdicts-of policy k))) ⌝ }
+{
+    let sizes = policy.sizes;
+    let minutes = sizes.minutes;
+    let count = policy.count;
+    let mut total: usize = 0;
+    let mut at: usize = 0;
+    let mut i: usize = 0;
+    while i < count {
+        let line = policy.subformulas[i];
+        if line.rule {
+            let from = i * minutes;
+            let to = from + minutes;
+            let end = at + minutes;
+            total += verdict_row(points, &valuation[from..to], &mut verdicts[at..end]);
+            at = end;
+        }
+        i += 1;
+    }
+    total
 }
