@@ -10,11 +10,12 @@ use Rattle.policy.specs.declared.Policy.{Policy}
 use Rattle.policy.specs.declared.Answer.{Answer as Checked}
 use Rattle.policy.specs.declared.Answer.the-variants as C
 use Rattle.policy.specs.Format.{answerOf, policyOf}
+use Rattle.policy.specs.Proper.{Proper}
 use Rattle.message.specs.declared.Event.{Event}
 use Rattle.message.specs.declared.Decoded.{Decoded}
 use Rattle.message.specs.Format.{answerOf as message-answer, decodeOf}
-use Rattle.message.specs.Fixes.{Message, Well-formed, meaningOf}
-use Rattle.message.specs.Laws.{decoded, decoded-answer}
+use Rattle.message.specs.Fixes.{Message, Fits, Well-formed, meaningOf}
+use Rattle.message.specs.Laws.{decoded, decoded-answer, fits}
 use Rattle.knowledge.specs.Knowledge.{sound, admits}
 use Rattle.knowledge.specs.Run.{sent}
 use Rattle.monitor.specs.declared.Answer.{Answer}
@@ -82,6 +83,10 @@ pub hear : (z : Sizes) (b : List ℕ) (d : Decoded) → d ≡ decodeOf z b → d
 hear z b d e f =
     let w : Well-formed z b = message-answered z b d C.Accepted e f in
     record { formed = w; same = ap (λ (x : Decoded). sent (x .component) (x .event)) (e ∙ decoded z b w) }
+
+-- it is in range
+pub heard-fits : (p : Policy) → Proper p → (b : List ℕ) (component : ℕ) (event : Event) → Heard (p .sizes) b component event → Fits (p .sizes) (sent component event)
+heard-fits p z b component event h = subst (Fits (p .sizes)) (sym (h .same)) (fits (p .sizes) (z .propositions .high) b (h .formed))
 
 module _ (p : Policy) (x : State) (b : List ℕ) where
   pub message-refused : (r : Refusal) → message-answer (p .sizes) b ≡ C.Refused r → refused x r ≡ take-message p x b

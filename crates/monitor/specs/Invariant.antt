@@ -104,7 +104,7 @@ module _ (c : Policy) where
   unfolding valued
   fresh-valued i t = ap (λ (x : ℕ). bit x i) (fresh-facts (2 * t + 1)) ∙ bit-of-zero i
 
-  fresh-sound : Sound (c .sizes) (fresh (c .sizes))
+  pub fresh-sound : Sound (c .sizes) (fresh (c .sizes))
   fresh-sound = record {
     first = fresh-first;
     apart = λ s a b l h k x y. absurd (omega (arith, fresh-known s b (number (c .sizes) (fresh (c .sizes)) s b) l k y refl));
@@ -193,7 +193,7 @@ module _ (c : Policy) where
       (set-word l (2 * t) (bitOr (getD l (2 * t) 0) named) f (or-lt 32 (getD l (2 * t) 0) named (f (2 * t)) (z .2)))
       (or-lt 32 (getD l (2 * t + 1) 0) values (f (2 * t + 1)) (z .3)) j
 
-  sheet-lengths : (k : Knowledge) → (length (valuation-of c k) ≡ c .count * c .sizes .minutes) × (length (verdicts-of c k) ≡ c .rules * c .sizes .minutes)
+  pub sheet-lengths : (k : Knowledge) → (length (valuation-of c k) ≡ c .count * c .sizes .minutes) × (length (verdicts-of c k) ≡ c .rules * c .sizes .minutes)
   unfolding valuation-of verdicts-of
   sheet-lengths k = (table-length (c .count * c .sizes .minutes) _, table-length (c .rules * c .sizes .minutes) _)
 
