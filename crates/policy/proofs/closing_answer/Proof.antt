@@ -1,7 +1,7 @@
+use Rattle.policy.proofs.Line.{held, failed}
 -- The two tests are the two checks of `closingAnswer`, in its order. Assumes nothing.
 use Rattle.policy.specs.Format.{closingAnswer}
-use mathlib.Core.Path.{sym, _∙_}
-use borrow.Author.Tests.{eq-eqb, ne-eqb, not-true, not-false}
+use borrow.Author.Tests.{eq-eqb, ne-eqb}
 use borrow.Author.Needs.{needs}
 use Rattle.policy.proofs.closing_answer.Statement.{statement}
 use Rattle.policy.proofs.closing_answer.Tie as tie
@@ -15,11 +15,11 @@ in-range-requires c κs = search needs
 
 returns-2 : tie.Need-returns-2
 unfolding closingAnswer
-returns-2 c = rw (eq-eqb _ _ (c .before .before .if1 .left), sym (c .before .in-range .ensures) ∙ not-true _ (c .if2 .taken))
+returns-2 c = rw (eq-eqb _ _ (c .before .before .if1 .left), failed (c .before .in-range .ensures) (c .if2 .taken))
 
 returns-3 : tie.Need-returns-3
 unfolding closingAnswer
-returns-3 c = rw (eq-eqb _ _ (c .before .before .if1 .left), sym (c .before .in-range .ensures) ∙ not-false _ (c .if2 .left))
+returns-3 c = rw (eq-eqb _ _ (c .before .before .if1 .left), held (c .before .in-range .ensures) (c .if2 .left))
 
 pub closing-answer-spec : {M : Type 1} → statement M
 closing-answer-spec = tie.close (tie.spec returns in-range-requires returns-2 returns-3)

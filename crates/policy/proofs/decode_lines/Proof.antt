@@ -42,16 +42,23 @@ sizes-of-requires : tie.Need-sizes-of-requires
 sizes-of-requires c κs = search needs
 
 returns : tie.Need-returns
-returns c = refuses _ _ _ (after-heading _ (c .before .before .before .before .before .before .before .before .pre .0) (c .before .before .before .before .before .before .before .before .pre .1) (sym (c .before .before .before .before .before .scan .ensures .answer) ∙ c .before .before .answer .given .1)) (c .refused .ensures)
+returns c = let lines = c .before .before .before .before .before in
+    let h = lines .before .before .before .pre in
+    refuses _ _ _ (after-heading _ (h .0) (h .1) (sym (lines .scan .ensures .answer) ∙ c .before .before .answer .given .1)) (c .refused .ensures)
 
 returns-2 : tie.Need-returns-2
-returns-2 c = let e = c .before .before .before .before .before .enum-told .given .1 in
-    refuses _ _ _ (closes _ _ (c .before .before .before .before .before .before .before .before .before .before .before .pre) (c .before .before .before .before .before .before .before .before .scan .ensures) e (sym (c .before .before .closing .given .1) ∙ c .before .before .before .before .closing-answer .ensures)) (c .refused2 .ensures)
+returns-2 c = let told = c .before .before .before .before .before in
+    let lines = told .before .before .before in
+    let closing = sym (c .before .before .closing .given .1) ∙ c .before .before .before .before .closing-answer .ensures in
+    refuses _ _ _ (closes _ _ (lines .before .before .before .pre) (lines .scan .ensures) (told .enum-told .given .1) closing) (c .refused2 .ensures)
 
 returns-3 : tie.Need-returns-3
-returns-3 c = let l = c .before .before .before .before .before .before .before .scan .ensures in
-    let e = c .before .before .before .before .enum-told .given .1 in
-    accepts _ _ _ _ (closes _ _ (c .before .before .before .before .before .before .before .before .before .before .pre) l e (sym (c .before .enum-told2 .given .1) ∙ c .before .before .before .closing-answer .ensures)) (c .sizes-of .ensures) (l .rules e) (l .subformulas e)
+returns-3 c = let told = c .before .before .before .before in
+    let lines = told .before .before .before in
+    let l = lines .scan .ensures in
+    let e = told .enum-told .given .1 in
+    let closing = sym (c .before .enum-told2 .given .1) ∙ c .before .before .before .closing-answer .ensures in
+    accepts _ _ _ _ (closes _ _ (lines .before .before .before .pre) l e closing) (c .sizes-of .ensures) (l .rules e) (l .subformulas e)
 
 pub decode-lines-spec : {M : Type 1} → statement M
 decode-lines-spec =

@@ -76,7 +76,30 @@ read16-requires-2 c κs = rw (c .has5 .ensures) (omega arith)
 
 returns : tie.Need-returns
 unfolding fieldsAt
-returns c = rw (c .read162 .ensures, c .before .before .read16 .ensures, c .before .before .before .before .read83 .ensures, c .before .before .before .before .before .before .read82 .ensures, c .before .before .before .before .before .before .before .before .read8 .ensures, c .before .has5 .ensures, c .before .before .before .has4 .ensures, c .before .before .before .before .before .has3 .ensures, c .before .before .before .before .before .before .before .has2 .ensures, c .before .before .before .before .before .before .before .before .before .has .ensures, c .before .before .before .before .before .before .before .before .before .before .field-size4 .ensures .0, c .before .before .before .before .before .before .before .before .before .before .before .field-size3 .ensures .0, c .before .before .before .before .before .before .before .before .before .before .before .before .field-size2 .ensures .0, c .before .before .before .before .before .before .before .before .before .before .before .before .before .field-size .ensures .0)
+returns c = let upper = c .before in
+    let lower = upper .before .before in
+    let second = lower .before .before in
+    let first = second .before .before in
+    let kind = first .before .before in
+    let size4 = kind .before in
+    let size3 = size4 .before in
+    let size2 = size3 .before in
+    rw (
+      c .read162 .ensures,
+      upper .before .read16 .ensures,
+      lower .before .read83 .ensures,
+      second .before .read82 .ensures,
+      first .before .read8 .ensures,
+      upper .has5 .ensures,
+      lower .has4 .ensures,
+      second .has3 .ensures,
+      first .has2 .ensures,
+      kind .has .ensures,
+      size4 .field-size4 .ensures .0,
+      size3 .field-size3 .ensures .0,
+      size2 .field-size2 .ensures .0,
+      size2 .before .field-size .ensures .0,
+    )
 
 pub fields-at-spec : {M : Type 1} → statement M
 fields-at-spec =

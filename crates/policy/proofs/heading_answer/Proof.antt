@@ -1,7 +1,6 @@
+use Rattle.policy.proofs.Line.{held, failed}
 -- The tests are the checks of `headingAnswer`, in its order. Assumes nothing.
-use mathlib.Core.Path.{sym, _∙_}
 use native.Mathlib.Omega.{arith}
-use borrow.Author.Tests.{not-true, not-false}
 use Rattle.policy.specs.Format.{headingAnswer}
 use borrow.Author.Needs.{needs}
 use Rattle.policy.proofs.heading_answer.Statement.{statement}
@@ -18,7 +17,7 @@ in-range-requires c κs = search needs
 
 returns : tie.Need-returns
 unfolding headingAnswer
-returns c = rw (sym (c .before .in-range .ensures) ∙ not-true _ (c .if1 .taken))
+returns c = rw (failed (c .before .in-range .ensures) (c .if1 .taken))
 
 shared-slice-read-in-range-2 : tie.Need-shared-slice-read-in-range-2
 shared-slice-read-in-range-2 c = search needs
@@ -31,7 +30,8 @@ in-range-requires-2 c κs = search needs
 
 returns-2 : tie.Need-returns-2
 unfolding headingAnswer
-returns-2 c = rw (sym (c .before .before .before .before .in-range .ensures) ∙ not-false _ (c .before .before .before .if1 .left), sym (c .before .in-range2 .ensures) ∙ not-true _ (c .if2 .taken))
+returns-2 c = let one = c .before .before .before in
+    rw (held (one .before .in-range .ensures) (one .if1 .left), failed (c .before .in-range2 .ensures) (c .if2 .taken))
 
 shared-slice-read-word : tie.Need-shared-slice-read-word
 shared-slice-read-word c = search needs
@@ -50,7 +50,14 @@ in-range-requires-3 c κs = search needs
 
 returns-3 : tie.Need-returns-3
 unfolding headingAnswer
-returns-3 c = rw (sym (c .before .before .before .before .before .before .before .before .before .in-range .ensures) ∙ not-false _ (c .before .before .before .before .before .before .before .before .if1 .left), sym (c .before .before .before .before .before .before .in-range2 .ensures) ∙ not-false _ (c .before .before .before .before .before .if2 .left), ← (c .before .before .word .ensures), sym (c .before .in-range3 .ensures) ∙ not-true _ (c .if3 .taken))
+returns-3 c = let two = c .before .before .before .before .before in
+    let one = two .before .before .before in
+    rw (
+      held (one .before .in-range .ensures) (one .if1 .left),
+      held (two .before .in-range2 .ensures) (two .if2 .left),
+      ← (c .before .before .word .ensures),
+      failed (c .before .in-range3 .ensures) (c .if3 .taken),
+    )
 
 shared-slice-read-in-range-3 : tie.Need-shared-slice-read-in-range-3
 shared-slice-read-in-range-3 c = search needs
@@ -63,11 +70,29 @@ in-range-requires-4 c κs = search needs
 
 returns-4 : tie.Need-returns-4
 unfolding headingAnswer
-returns-4 c = rw (sym (c .before .before .before .before .before .before .before .before .before .before .before .before .in-range .ensures) ∙ not-false _ (c .before .before .before .before .before .before .before .before .before .before .before .if1 .left), sym (c .before .before .before .before .before .before .before .before .before .in-range2 .ensures) ∙ not-false _ (c .before .before .before .before .before .before .before .before .if2 .left), ← (c .before .before .before .before .before .word .ensures), sym (c .before .before .before .before .in-range3 .ensures) ∙ not-false _ (c .before .before .before .if3 .left), sym (c .before .in-range4 .ensures) ∙ not-true _ (c .if4 .taken))
+returns-4 c = let three = c .before .before .before in
+    let two = three .before .before .before .before .before in
+    let one = two .before .before .before in
+    rw (
+      held (one .before .in-range .ensures) (one .if1 .left),
+      held (two .before .in-range2 .ensures) (two .if2 .left),
+      ← (three .before .before .word .ensures),
+      held (three .before .in-range3 .ensures) (three .if3 .left),
+      failed (c .before .in-range4 .ensures) (c .if4 .taken),
+    )
 
 returns-5 : tie.Need-returns-5
 unfolding headingAnswer
-returns-5 c = rw (sym (c .before .before .before .before .before .before .before .before .before .before .before .before .in-range .ensures) ∙ not-false _ (c .before .before .before .before .before .before .before .before .before .before .before .if1 .left), sym (c .before .before .before .before .before .before .before .before .before .in-range2 .ensures) ∙ not-false _ (c .before .before .before .before .before .before .before .before .if2 .left), ← (c .before .before .before .before .before .word .ensures), sym (c .before .before .before .before .in-range3 .ensures) ∙ not-false _ (c .before .before .before .if3 .left), sym (c .before .in-range4 .ensures) ∙ not-false _ (c .if4 .left))
+returns-5 c = let three = c .before .before .before in
+    let two = three .before .before .before .before .before in
+    let one = two .before .before .before in
+    rw (
+      held (one .before .in-range .ensures) (one .if1 .left),
+      held (two .before .in-range2 .ensures) (two .if2 .left),
+      ← (three .before .before .word .ensures),
+      held (three .before .in-range3 .ensures) (three .if3 .left),
+      held (c .before .in-range4 .ensures) (c .if4 .left),
+    )
 
 pub heading-answer-spec : {M : Type 1} → statement M
 heading-answer-spec =

@@ -1,11 +1,12 @@
+use Rattle.policy.proofs.Line.{held, failed}
 -- Invariant: the first i lines are accepted and read (`UpTo`). A line that fails refuses all, since the answer of the lines keeps its first refusal. Assumes nothing.
 use Rattle.policy.proofs.Lines.{UpTo, nothing-read, cut, bad, one-line, refused-lines, read-lines}
-use borrow.Author.Tests.{not-true, not-false, leb-true}
+use borrow.Author.Tests.{leb-true}
 use borrow.Author.Needs.{needs}
 use native.Mathlib.Numerals.{add-one}
 use native.Mathlib.Omega.{arith}
-use mathlib.Core.Path.{_≡_, sym, _∙_}
-use Prim.Native.Nat.{_-_, _≤_}
+use mathlib.Core.Path.{_≡_}
+use Prim.Native.Nat.{_-_, _≤_, _<_}
 use Rattle.policy.proofs.scan.Statement.{statement}
 use Rattle.policy.proofs.scan.Tie as tie
 
@@ -25,22 +26,25 @@ is-whole-requires : tie.Need-is-whole-requires Inv-loop μ-loop
 is-whole-requires c κs = c .before .loop .inv .1 .inside
 
 returns : tie.Need-returns Inv-loop μ-loop
-returns c = let l = c .before .before .before .loop in
-    let s = c .before .before .before .before .before .before .args .s .now in
-    refused-lines _ _ _ _ _ _ (cut s (l .i) _ _ (l .at) (l .inv .1) _ (c .before .before .loop-test .taken) (sym (c .before .is-whole .ensures) ∙ not-true _ (c .if1 .taken)))
+returns c = let top = c .before .before .before in
+    let l = top .loop in
+    let short = failed (c .before .is-whole .ensures) (c .if1 .taken) in
+    refused-lines _ _ _ _ _ _ (cut (top .before .before .before .args .s .now) (l .i) _ _ (l .at) (l .inv .1) _ (c .before .before .loop-test .taken) short)
 
 fields-at-requires : tie.Need-fields-at-requires Inv-loop μ-loop
-fields-at-requires c κs = leb-true _ _ (sym (c .before .is-whole .ensures) ∙ not-false _ (c .if1 .left))
+fields-at-requires c κs = leb-true _ _ (held (c .before .is-whole .ensures) (c .if1 .left))
 
 good-line-requires : tie.Need-good-line-requires Inv-loop μ-loop
 good-line-requires c κs = search needs
 
 returns-2 : tie.Need-returns-2 Inv-loop μ-loop
-returns-2 c = let l = c .before .before .before .before .before .before .loop in
-    let s = c .before .before .before .before .before .before .before .before .before .args .s .now in
-    let whole = sym (c .before .before .before .before .is-whole .ensures) ∙ not-false _ (c .before .before .before .if1 .left) in
-    let broken = sym (c .before .good-line .ensures) ∙ not-true _ (c .if2 .taken) in
-    refused-lines _ _ _ _ _ _ (bad s (l .i) (l .subformulas) (l .rules) (l .at) (l .inv .1) _ (c .before .before .fields-at .ensures) whole _ (c .before .before .before .before .before .loop-test .taken) broken)
+returns-2 c = let fields = c .before .before in
+    let top = fields .before .before .before .before in
+    let l = top .loop in
+    let whole = held (fields .before .before .is-whole .ensures) (fields .before .if1 .left) in
+    let broken = failed (c .before .good-line .ensures) (c .if2 .taken) in
+    let line = bad (top .before .before .before .args .s .now) (l .i) (l .subformulas) (l .rules) (l .at) (l .inv .1) _ (fields .fields-at .ensures) whole in
+    refused-lines _ _ _ _ _ _ (line _ (fields .before .before .before .loop-test .taken) broken)
 
 subformula-of-requires : tie.Need-subformula-of-requires Inv-loop μ-loop
 subformula-of-requires c κs = search needs
@@ -70,12 +74,18 @@ loop-less : tie.Need-loop-less Inv-loop μ-loop
 loop-less c = search needs
 
 loop-again : tie.Need-loop-again Inv-loop μ-loop
-loop-again c = let l = c .before .before .before .before .before .before .before .before .before .loop in
-    let s = c .before .before .before .before .before .before .before .before .before .before .before .before .args .s .now in
-    let whole = sym (c .before .before .before .before .before .before .before .is-whole .ensures) ∙ not-false _ (c .before .before .before .before .before .before .if1 .left) in
-    let good = sym (c .before .before .before .before .good-line .ensures) ∙ not-false _ (c .before .before .before .if2 .left) in
-    let line = one-line s (l .i) (l .subformulas) (l .rules) (l .at) (l .inv .1) _ (c .before .before .before .before .before .fields-at .ensures) whole in
-    (search needs, rw add-one (line (omega (arith, c .before .before .before .before .before .before .before .before .before .before .before .before .pre .1)) good (c .before .before .subformula-of .ensures) (c .before .field-size .ensures) (c .line-length .ensures .0)))
+loop-again c = let fields = c .before .before .before .before .before in
+    let top = fields .before .before .before .before in
+    let start = top .before .before .before in
+    let l = top .loop in
+    let whole = held (fields .before .before .is-whole .ensures) (fields .before .if1 .left) in
+    let good = held (c .before .before .before .before .good-line .ensures) (c .before .before .before .if2 .left) in
+    let small : l .i < 64 = omega (arith, start .pre .1) in (
+      search needs,
+      rw add-one
+          (one-line (start .args .s .now) (l .i) (l .subformulas) (l .rules) (l .at) (l .inv .1) _ (fields .fields-at .ensures) whole small good
+          (c .before .before .subformula-of .ensures) (c .before .field-size .ensures) (c .line-length .ensures .0)),
+    )
 
 returns-3 : tie.Need-returns-3 Inv-loop μ-loop
 returns-3 c = let l = c .before .loop in
