@@ -2,8 +2,9 @@
 use Prim.Native.Nat.{ℕ, zero, suc, _+_, _-_, _*_, _/_, _%_, _^_, _≤_, _<_, max}
 use native.Mathlib.Nat.{pow-succ', div-one, div-div-eq-div-mul, div-eq-of-lt, pow-le-pow-right, zero-div}
 use native.Mathlib.Omega.{arith}
+use native.Mathlib.Decide.{decLt}
 use mathlib.Core.Path.{_≡_, refl, sym, ap, _∙_}
-use mathlib.Core.Bool.{Bool, true, false, _||_}
+use mathlib.Core.Bool.{Bool, true, false, _||_, true≢false}
 use lib.Dec.{eqb}
 use lib.Bits.{bitOr, or-step}
 use borrow.Author.Tests.{eqb-true, eqb-false, eq-eqb, ne-eqb}
@@ -58,6 +59,13 @@ unfolding bit
 bit-high n a h k l =
     let p : 2 ^ n ≤ 2 ^ k = pow-le-pow-right (omega arith) l in
     ap (λ (x : ℕ). eqb (x % 2) 1) (div-eq-of-lt {n = a} {m = 2 ^ k} (omega arith))
+
+pub bit-below : (n a : ℕ) → a < 2 ^ n → (k : ℕ) → bit a k ≡ true → k < n
+bit-below n a h k e = go (decLt k n)
+  where
+    go : Dec (k < n) → k < n
+    go (yes l) = l
+    go (no l) = absurd (true≢false (sym e ∙ bit-high n a h k (omega arith)))
 
 pub bit-of-zero : (k : ℕ) → bit 0 k ≡ false
 unfolding bit

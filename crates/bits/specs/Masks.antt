@@ -2,13 +2,12 @@
 use Prim.Native.Nat.{ℕ, zero, suc, _+_, _-_, _*_, _/_, _%_, _^_, _≤_, _<_, min}
 use native.Mathlib.Nat.{one-le-pow, pow-succ'}
 use native.Mathlib.Omega.{arith}
-use native.Mathlib.Decide.{decLt}
 use mathlib.Core.Path.{_≡_, refl, sym, ap, ap₂, _∙_}
-use mathlib.Core.Bool.{Bool, true, false, not, _&&_, _||_, xor, true≢false}
+use mathlib.Core.Bool.{Bool, true, false, not, _&&_, _||_, xor}
 use mathlib.Core.Logic.{_↔_}
 use lib.Dec.{eqb}
 use lib.Bits.{bitAnd, bitXor, differ, and-step, xor-step}
-use Rattle.bits.specs.Bits.{bit, bit-zero, bit-suc, bit-high, bit-of-zero, bits-same}
+use Rattle.bits.specs.Bits.{bit, bit-zero, bit-suc, bit-below, bit-of-zero, bits-same}
 
 lesser : (x y : ℕ) → x < 2 → y < 2 → eqb (min x y) 1 ≡ (eqb x 1 && eqb y 1)
 lesser zero zero h k = refl
@@ -53,15 +52,8 @@ no-bits w n h = (λ e i l. ap (λ (x : ℕ). bit x i) e ∙ bit-of-zero i, λ f.
 
 -- a word has digits below p only, just where it is below 2 ^ p
 pub low-bits : (w p n : ℕ) → n < 2 ^ w → (n < 2 ^ p) ↔ ((i : ℕ) → i < w → bit n i ≡ true → i < p)
-low-bits w p n h = (there, λ f. below w p n h f)
+low-bits w p n h = (λ l i k e. bit-below p n l i e, λ f. below w p n h f)
   where
-    there : n < 2 ^ p → (i : ℕ) → i < w → bit n i ≡ true → i < p
-    there l i k e = go (decLt i p)
-      where
-        go : Dec (i < p) → i < p
-        go (yes d) = d
-        go (no d) = absurd (true≢false (sym e ∙ bit-high p n l i (omega arith)))
-
     below : (w p n : ℕ) → n < 2 ^ w → ((i : ℕ) → i < w → bit n i ≡ true → i < p) → n < 2 ^ p
     below w zero n h f = omega (arith, no-bits w n h .1 (λ i l. none i l (bit n i) refl))
       where

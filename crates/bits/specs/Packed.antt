@@ -7,7 +7,11 @@ use native.Mathlib.Nat.{div-one, pow-suc, mod-lt, le-of-suc-le-suc, not-suc-le-z
 use lib.Count.{ones, ones-step, trailingZeros, under}
 use lib.Pow.{pow-pos}
 use lib.Arith.{lt-one}
+use mathlib.Core.Bool.{true}
+use lib.Dec.{eqb}
+use borrow.Author.Tests.{eqb-true, eq-eqb}
 use Rattle.bits.specs.Digits.{digit, below, expanded}
+use Rattle.bits.specs.Bits.{bit, bit-below}
 
 pub digit-low : (n : ℕ) → digit n 0 ≡ n % 2
 unfolding digit
@@ -177,6 +181,21 @@ expanded-bit (suc n) k map v h =
     (λ (e : k ≡ n). rw e (digit-top n (expanded n map v) (digit map n * digit v (below n map)) (expanded-lt n map v) (both _ _ (digit-lt map n) (digit-lt v (below n map)))))
     (λ (l : k < n). digit-under k n (expanded n map v) (digit map n * digit v (below n map)) l ∙ expanded-bit n k map v l)
     (eq-or-lt-of-le (le-of-suc-le-suc h))
+
+-- a digit is set just where the bit is true
+pub bit-digit : (n k : ℕ) → bit n k ≡ eqb (digit n k) 1
+unfolding bit digit
+bit-digit n k = refl
+
+-- the expanded values have bits at the map's places only
+pub expanded-named : (n map v k : ℕ) → bit (expanded n map v) k ≡ true → bit map k ≡ true
+expanded-named n map v k e =
+    let l : k < n = bit-below n (expanded n map v) (expanded-lt n map v) k e in
+    let one : digit (expanded n map v) k ≡ 1 = eqb-true _ _ (sym (bit-digit (expanded n map v) k) ∙ e) in
+    bit-digit map k ∙ eq-eqb _ _ (set (digit map k) (digit v (below k map)) (digit-lt map k) (sym (expanded-bit n k map v l) ∙ one))
+  where
+    set : (b x : ℕ) → b < 2 → b * x ≡ 1 → b ≡ 1
+    set b x h q = ⊎-elim (λ (z : b ≡ 0). absurd (omega (arith, zero-mul x, ap (λ (y : ℕ). y * x) z))) (λ (o : b ≡ 1). o) (two b h)
 
 -- places 1, 4, 5 and 7 take the packed bits 1, 0, 1 and 1
 worked : expanded 32 0b10110010 0b1101 ≡ 162

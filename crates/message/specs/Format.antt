@@ -1,6 +1,6 @@
 -- 01, "The slip", as functions of the bytes. Each definition opens with its sentence.
 use Prim.Native.Nat.{ℕ, _+_, _/_, _^_}
-use mathlib.Core.Bool.{Bool, true, false, cond, _&&_}
+use mathlib.Core.Bool.{Bool, cond, _&&_}
 use mathlib.Core.List.{List}
 use lib.Dec.{eqb, ltb, leb}
 use lib.ListN.{getD, length}
@@ -12,6 +12,7 @@ use Rattle.policy.specs.declared.Sizes.{Sizes}
 use Rattle.policy.specs.declared.Answer.{Answer}
 use Rattle.policy.specs.declared.Answer.the-variants.{Accepted, Refused}
 use Rattle.policy.specs.Format.{check}
+use Rattle.message.specs.declared.Fields.{Fields}
 use Rattle.message.specs.declared.Event.{Event}
 use Rattle.message.specs.declared.Event.the-variants.{Observation, Alive}
 use Rattle.message.specs.declared.Decoded.{Decoded}
@@ -65,6 +66,11 @@ packedOf s = packedAt s (valueBytes (namedOf s)) (valuesAt (mapOf s))
 unfoldable pub valuesOf : List ℕ → ℕ
 valuesOf s = expanded 32 (namedOf s) (packedOf s)
 
+-- what the rules are about
+unfoldable pub fieldsOf : List ℕ → Fields
+fieldsOf s =
+    record { map = mapOf s; component = componentOf s; minute = minuteOf s; number = numberOf s; named = namedOf s; packed = packedOf s }
+
 -- ---- the length
 
 -- Bits 4 to 7 never change it. Bytes past the end read as 0, so where the map or the mark map is cut this is more than there are
@@ -77,27 +83,35 @@ measured s = cond (leb (lengthOf s) (length s)) (Whole (lengthOf s)) EndsEarly
 -- ---- the rules
 
 -- "An alive slip at minute t (at most M) .. names no marks"
-unfoldable pub goodAlive : Sizes → List ℕ → Bool
-goodAlive z s = eqb (namedOf s) 0 && leb (minuteOf s) (z .minutes)
+unfoldable pub goodAlive : Sizes → Fields → Bool
+goodAlive z f = eqb (f .named) 0 && leb (f .minute) (z .minutes)
 
 -- "An observation at minute t (below M) with count s, at least 1"; it names marks of the card, and "spare bits are 0"
-unfoldable pub goodObservation : Sizes → List ℕ → Bool
-goodObservation z s =
-    ltb (minuteOf s) (z .minutes)
-    && (leb 1 (numberOf s)
-    && (ltb (namedOf s) (2 ^ z .propositions)
-    && ltb (packedOf s) (2 ^ below 32 (namedOf s))))
+unfoldable pub goodObservation : Sizes → Fields → Bool
+goodObservation z f =
+    ltb (f .minute) (z .minutes)
+    && (leb 1 (f .number)
+    && (ltb (f .named) (2 ^ z .propositions)
+    && ltb (f .packed) (2 ^ below 32 (f .named))))
 
--- "Bits 5 to 7 are 0." "A written field is not 0; the value bytes are exempt." A station of the card. "Bit 4 makes it an alive slip"
-unfoldable pub goodMessage : Sizes → List ℕ → Bool
-goodMessage z s =
-    ltb (mapOf s) 32
-    && (written (has (mapOf s) 0) (componentOf s)
-    && (written (has (mapOf s) 1) (minuteOf s)
-    && (written (has (mapOf s) 2) (numberOf s)
-    && (written (has (mapOf s) 3) (namedOf s)
-    && (ltb (componentOf s) (z .components)
-    && cond (has (mapOf s) 4) (goodAlive z s) (goodObservation z s))))))
+-- "A written field is not 0; the value bytes are exempt"
+unfoldable pub allWritten : Fields → Bool
+allWritten f =
+    written (has (f .map) 0) (f .component)
+    && (written (has (f .map) 1) (f .minute)
+    && (written (has (f .map) 2) (f .number)
+    && written (has (f .map) 3) (f .named)))
+
+-- "Bits 5 to 7 are 0." A station of the card. "Bit 4 makes it an alive slip"
+unfoldable pub goodFields : Sizes → Fields → Bool
+goodFields z f =
+    ltb (f .map) 32
+    && (allWritten f
+    && (ltb (f .component) (z .components)
+    && cond (has (f .map) 4) (goodAlive z f) (goodObservation z f)))
+
+abbrev pub goodMessage : Sizes → List ℕ → Bool
+goodMessage z s = goodFields z (fieldsOf s)
 
 -- ---- the answer
 
@@ -110,16 +124,25 @@ answerOf z s =
     Accepted))
 
 -- "A slip read is either an observation or an alive"
-unfoldable pub eventOf : List ℕ → Event
-eventOf s =
-    cond (has (mapOf s) 4)
-    (Alive (minuteOf s) (numberOf s))
-    (Observation (minuteOf s) (numberOf s) (namedOf s) (valuesOf s))
+unfoldable pub eventIn : Fields → Event
+eventIn f =
+    cond (has (f .map) 4)
+    (Alive (f .minute) (f .number))
+    (Observation (f .minute) (f .number) (f .named) (expanded 32 (f .named) (f .packed)))
+
+abbrev pub eventOf : List ℕ → Event
+eventOf s = eventIn (fieldsOf s)
 
 -- ".. inside one answer that also holds its station"
+abbrev pub acceptedWith : Fields → Decoded
+acceptedWith f = record { answer = Accepted; component = f .component; event = eventIn f }
+
+abbrev pub refusedWith : Refusal → Decoded
+refusedWith r = record { answer = Refused r; component = 0; event = Alive 0 0 }
+
 abbrev pub withAnswer : Answer → List ℕ → Decoded
-withAnswer Accepted s = record { answer = Accepted; component = componentOf s; event = eventOf s }
-withAnswer (Refused r) s = record { answer = Refused r; component = 0; event = Alive 0 0 }
+withAnswer Accepted s = acceptedWith (fieldsOf s)
+withAnswer (Refused r) s = refusedWith r
 
 unfoldable pub decodeOf : Sizes → List ℕ → Decoded
 decodeOf z s = withAnswer (answerOf z s) s

@@ -2,3 +2,5 @@
 pub mod Format
 pub mod Fixes
 pub mod Proper
+pub mod Laws
+pub mod Examples

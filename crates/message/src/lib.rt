@@ -1,5 +1,21 @@
 // The message (01: the slip): how long it is, and what it says.
+use encoding::has;
+use encoding::is_written;
+use encoding::long;
+use encoding::read8;
+use encoding::read16;
+use encoding::read32;
+use encoding::size_of;
 use policy::Answer;
+use policy::Sizes;
+use refusal::Refusal;
+ghost use mathlib.Core.Path.{_≡_};
+ghost use Prim.Native.Nat.{_+_, _^_, _≤_, _<_};
+ghost use lib.Dec.{ltb};
+ghost use lib.ListN.{length};
+ghost use Rattle.bits.specs.Digits.{below, expanded};
+ghost use Rattle.encoding.specs.Fields.{field8};
+ghost use Rattle.message.specs.Format.{minuteAt, numberAt, namedAt, valuesAt, valueBytes, packedAt, fieldsOf, lengthOf, measured, goodAlive, goodObservation, allWritten, goodFields, eventIn, refusedWith, decodeOf};
 
 // What a component reports (01: an observation, or an alive slip), with its minute and its sequence number (01: count).
 pub enum Event {
@@ -27,4 +43,264 @@ pub struct Decoded {
 pub enum Length {
     Whole(usize),
     EndsEarly,
+}
+
+// The message's bit map and its fields, absent ones as 0, and its value bytes as one number.
+pub struct Fields {
+    pub map: u8,
+    pub component: u8,
+    pub minute: u16,
+    pub number: u16,
+    pub named: u32,
+    pub packed: u32,
+}
+
+// Where the minute starts; the others follow.
+fn minute_at(map: u8) -> usize
+    ensures { λ r. ⌜ (r ≡ minuteAt map) × (r ≤ 2) ⌝ }
+{
+    1 + size_of(has(map, 1), 1)
+}
+
+fn number_at(map: u8) -> usize
+    ensures { λ r. ⌜ (r ≡ numberAt map) × (r ≤ 4) ⌝ }
+{
+    minute_at(map) + size_of(has(map, 2), 2)
+}
+
+fn named_at(map: u8) -> usize
+    ensures { λ r. ⌜ (r ≡ namedAt map) × (r ≤ 6) ⌝ }
+{
+    number_at(map) + size_of(has(map, 4), 2)
+}
+
+fn values_at(map: u8) -> usize
+    ensures { λ r. ⌜ (r ≡ valuesAt map) × (r ≤ 10) ⌝ }
+{
+    named_at(map) + size_of(has(map, 8), 4)
+}
+
+// How many propositions a map names.
+fn count(named: u32) -> usize
+    ensures { λ r. ⌜ (r ≡ below 32 named) × (r ≤ 32) ⌝ }
+{
+    u32::count_ones(named) as usize
+}
+
+// How many bytes their values take, a bit each.
+fn value_bytes(named: u32) -> usize
+    ensures { λ r. ⌜ (r ≡ valueBytes named) × (r ≤ 4) ⌝ }
+{
+    (count(named) + 7) / 8
+}
+
+// Byte j of the n value bytes, 0 past the last.
+fn value_byte(s: &[u8], n: usize, at: usize, j: usize) -> u8
+    requires { ⌜ at + n ≤ length (now s) ⌝ }
+    ensures { λ r. ⌜ r ≡ field8 (now (s .entry)) (ltb j n) (at + j) ⌝ }
+{
+    if j < n {
+        return s[at + j];
+    }
+    0
+}
+
+// The value bytes as one number, the first byte lowest.
+fn packed_at(s: &[u8], n: usize, at: usize) -> u32
+    requires { ⌜ at + n ≤ length (now s) ⌝ }
+    ensures { λ r. ⌜ r ≡ packedAt (now (s .entry)) n at ⌝ }
+{
+    let a = value_byte(s, n, at, 0);
+    let b = value_byte(s, n, at, 1);
+    let c = value_byte(s, n, at, 2);
+    let d = value_byte(s, n, at, 3);
+    long(a, b, c, d)
+}
+
+// The fields of a message that has all its bytes.
+fn fields_of(s: &[u8]) -> Fields
+    requires { ⌜ lengthOf (now s) ≤ length (now s) ⌝ }
+    ensures { λ r. ⌜ r ≡ fieldsOf (now (s .entry)) ⌝ }
+{
+    let map = s[0];
+    let component = read8(s, has(map, 1), 1);
+    let minute = read16(s, has(map, 2), minute_at(map));
+    let number = read16(s, has(map, 4), number_at(map));
+    let named = read32(s, has(map, 8), named_at(map));
+    let packed = packed_at(s, value_bytes(named), values_at(map));
+    Fields {
+        map: map,
+        component: component,
+        minute: minute,
+        number: number,
+        named: named,
+        packed: packed,
+    }
+}
+
+// How long the message is, from its bit map and its mark map alone.
+pub fn measure(s: &[u8]) -> Length
+    ensures { λ r. ⌜ r ≡ measured (now (s .entry)) ⌝ }
+{
+    if s.len() == 0 {
+        return Length::EndsEarly;
+    }
+    let map = s[0];
+    let values = values_at(map);
+    if s.len() < values {
+        return Length::EndsEarly;
+    }
+    let named = read32(s, has(map, 8), named_at(map));
+    let whole = values + value_bytes(named);
+    if s.len() < whole {
+        return Length::EndsEarly;
+    }
+    Length::Whole(whole)
+}
+
+// The values' bits at the places of their propositions, lowest first.
+fn expand(named: u32, packed: u32) -> u32
+    ensures { λ r. ⌜ r ≡ expanded 32 named packed ⌝ }
+{
+    let mut rest = named;
+    let mut left = packed;
+    let mut out: u32 = 0;
+    while rest != 0 {
+        let k = u32::trailing_zeros(rest);
+        let weight = 1u32 << k;
+        out = out + (left % 2) * weight;
+        left = left / 2;
+        rest = rest - weight;
+    }
+    out
+}
+
+// Has the word bits below place k only.
+fn fits_below(word: u32, k: usize) -> bool
+    ensures { λ r. ⌜ r ≡ ltb word (2 ^ k) ⌝ }
+{
+    if 32 <= k {
+        return true;
+    }
+    word < 1u32 << k
+}
+
+// An alive slip's rules.
+fn good_alive(f: Fields, sizes: Sizes) -> bool
+    ensures { λ r. ⌜ r ≡ goodAlive sizes f ⌝ }
+{
+    if f.named != 0 {
+        return false;
+    }
+    f.minute as usize <= sizes.minutes
+}
+
+// An observation's rules.
+fn good_observation(f: Fields, sizes: Sizes) -> bool
+    ensures { λ r. ⌜ r ≡ goodObservation sizes f ⌝ }
+{
+    if sizes.minutes <= f.minute as usize {
+        return false;
+    }
+    if f.number < 1 {
+        return false;
+    }
+    if !fits_below(f.named, sizes.propositions) {
+        return false;
+    }
+    fits_below(f.packed, count(f.named))
+}
+
+// No written field is 0.
+fn all_written(f: Fields) -> bool
+    ensures { λ r. ⌜ r ≡ allWritten f ⌝ }
+{
+    if !is_written(has(f.map, 1), f.component as u32) {
+        return false;
+    }
+    if !is_written(has(f.map, 2), f.minute as u32) {
+        return false;
+    }
+    if !is_written(has(f.map, 4), f.number as u32) {
+        return false;
+    }
+    is_written(has(f.map, 8), f.named)
+}
+
+// A message's rules.
+fn good_message(f: Fields, sizes: Sizes) -> bool
+    ensures { λ r. ⌜ r ≡ goodFields sizes f ⌝ }
+{
+    if 32 <= f.map {
+        return false;
+    }
+    if !all_written(f) {
+        return false;
+    }
+    if sizes.components <= f.component as usize {
+        return false;
+    }
+    if has(f.map, 16) {
+        return good_alive(f, sizes);
+    }
+    good_observation(f, sizes)
+}
+
+// What the fields say.
+fn event_of(f: Fields) -> Event
+    ensures { λ r. ⌜ r ≡ eventIn f ⌝ }
+{
+    if has(f.map, 16) {
+        return Event::Alive {
+            minute: f.minute,
+            number: f.number,
+        };
+    }
+    let values = expand(f.named, f.packed);
+    Event::Observation {
+        minute: f.minute,
+        number: f.number,
+        named: f.named,
+        values: values,
+    }
+}
+
+// What is answered to a message that is turned away.
+fn refused(r: Refusal) -> Decoded
+    ensures { λ d. ⌜ d ≡ refusedWith r ⌝ }
+{
+    let answer = Answer::Refused(r);
+    let event = Event::Alive {
+        minute: 0,
+        number: 0,
+    };
+    Decoded {
+        answer: answer,
+        component: 0,
+        event: event,
+    }
+}
+
+// The message, or why it is turned away.
+pub fn decode(s: &[u8], sizes: Sizes) -> Decoded
+    ensures { λ r. ⌜ r ≡ decodeOf sizes (now (s .entry)) ⌝ }
+{
+    match measure(s) {
+        Length::EndsEarly => refused(Refusal::TruncatedMessage(s.len())),
+        Length::Whole(whole) => {
+            if whole != s.len() {
+                return refused(Refusal::TruncatedMessage(whole));
+            }
+            let f = fields_of(s);
+            if !good_message(f, sizes) {
+                return refused(Refusal::BadMessage);
+            }
+            let event = event_of(f);
+            Decoded {
+                answer: Answer::Accepted,
+                component: f.component as usize,
+                event: event,
+            }
+        }
+    }
 }

@@ -1,6 +1,5 @@
 -- 01, "The card", as a function from the bytes to the answer and the policy. Each definition opens with its sentence.
 use Prim.Native.Nat.{ℕ, zero, suc, _+_, _-_}
-use mathlib.Core.Path.{_≡_}
 use mathlib.Core.Bool.{Bool, true, false, not, cond, _&&_}
 use mathlib.Core.List.{List, [], _∷_, _++_}
 use lib.Dec.{eqb, ltb, leb}
@@ -74,20 +73,23 @@ goodLine propositions line f =
     && leb (f .upper) 1023))))))))
 
 -- the table's middle column
+unfoldable pub meaning : ℕ → Fields → Formula
+meaning zero f = F.True
+meaning (suc zero) f = F.Proposition (f .first)
+meaning (suc (suc zero)) f = F.Not (f .first)
+meaning (suc (suc (suc zero))) f = F.Or (f .first) (f .second)
+meaning (suc (suc (suc (suc zero)))) f = F.Since (f .first) (f .second) (f .lower) (f .upper)
+meaning (suc (suc (suc (suc (suc k))))) f = F.Until (f .first) (f .second) (f .lower) (f .upper)
+
 unfoldable pub formulaOf : Fields → Formula
-formulaOf f = meaning (f .kind)
-  where
-    meaning : ℕ → Formula
-    meaning zero = F.True
-    meaning (suc zero) = F.Proposition (f .first)
-    meaning (suc (suc zero)) = F.Not (f .first)
-    meaning (suc (suc (suc zero))) = F.Or (f .first) (f .second)
-    meaning (suc (suc (suc (suc zero)))) = F.Since (f .first) (f .second) (f .lower) (f .upper)
-    meaning (suc (suc (suc (suc (suc k))))) = F.Until (f .first) (f .second) (f .lower) (f .upper)
+formulaOf f = meaning (f .kind) f
 
 -- "Bit 5 makes the line a rule"
+unfoldable pub subformulaOf : Fields → Subformula
+subformulaOf f = record { formula = formulaOf f; rule = has (f .map) 5 }
+
 unfoldable pub subformulaAt : List ℕ → ℕ → Subformula
-subformulaAt s at = record { formula = formulaOf (fieldsAt s at); rule = has (getD s at 0) 5 }
+subformulaAt s at = subformulaOf (fieldsAt s at)
 
 -- ---- the heading
 
@@ -160,15 +162,16 @@ rulesUpTo s (suc i) = rulesUpTo s i + size (has (getD s (offset s i) 0) 5) 1
 
 -- ---- the card
 
--- "1 for the heading, 2, then line by line 1 before 3, trailing bytes 1, then 4": "One to eight lines are rules"
+-- "Trailing bytes 1, then 4": "One to eight lines are rules"
+unfoldable pub closingAnswer : ℕ → ℕ → ℕ → Answer
+closingAnswer length at rules = check (eqb at length) (TruncatedPolicy at) (check (within 1 8 rules) RuleCount Accepted)
+
+-- "1 for the heading, 2, then line by line 1 before 3, trailing bytes 1, then 4"
 unfoldable pub answerOf : List ℕ → Answer
 answerOf s =
     check (leb 5 (length s)) (TruncatedPolicy (length s))
     (andThen (headingAnswer s)
-    (andThen (linesAnswer s (countOf s))
-    (check (eqb (offset s (countOf s)) (length s)) (TruncatedPolicy (offset s (countOf s)))
-    (check (within 1 8 (rulesUpTo s (countOf s))) RuleCount
-    Accepted))))
+    (andThen (linesAnswer s (countOf s)) (closingAnswer (length s) (offset s (countOf s)) (rulesUpTo s (countOf s)))))
 
 unfoldable pub policyOf : List ℕ → Policy
 policyOf s = record { sizes = sizesOf s; count = countOf s; rules = rulesUpTo s (countOf s); subformulas = subformulasOf s (countOf s) }

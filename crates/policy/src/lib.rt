@@ -8,11 +8,13 @@ use encoding::word;
 use mtl::Formula;
 use refusal::Refusal;
 ghost use mathlib.Core.Path.{_≡_};
-ghost use Prim.Native.Nat.{ℕ, suc, _+_, _*_, _≤_, _<_};
-ghost use mathlib.Core.Bool.{cond};
+ghost use Prim.Native.Nat.{_+_, _/_, _%_, _≤_, _<_};
+ghost use mathlib.Core.Bool.{true};
 ghost use lib.ListN.{length, getD};
-ghost use Rattle.encoding.specs.Fields.{size};
-ghost use Rattle.policy.specs.Format.{lineLength, fieldsAt, allowed, operandsGood, goodLine, formulaOf, within, headingAnswer, sizesOf, offset, linesAnswer, subformulasOf, rulesUpTo, Scanned, blank, decodeOf};
+ghost use lib.Dec.{eqb, leb};
+ghost use Rattle.encoding.specs.Fields.{size, written};
+ghost use Rattle.policy.specs.Format.{lineLength, fieldsAt, allowed, operandsGood, goodLine, formulaOf, subformulaOf, within, headingAnswer, sizesOf, blank, withAnswer, closingAnswer, decodeOf};
+ghost use Rattle.policy.specs.Lines.{Scans};
 
 // How many propositions (01: marks), components (01: stations) and minutes a trace has.
 pub struct Sizes {
@@ -55,4 +57,346 @@ pub struct Fields {
     pub second: u8,
     pub lower: u16,
     pub upper: u16,
+}
+
+// The lines read: the answer, and where it is Accepted the place after them, how many are rules, and the table.
+struct Scanned {
+    answer: Answer,
+    at: usize,
+    rules: usize,
+    subformulas: [Subformula; 64],
+}
+
+// How many bytes of a line the field of this weight takes.
+fn field_size(map: u8, weight: u8, n: usize) -> usize
+    requires { ⌜ 0 < weight ⌝ }
+    ensures { λ r. ⌜ (r ≡ size (eqb (map / weight % 2) 1) n) × (r ≤ n) ⌝ }
+{
+    size_of(has(map, weight), n)
+}
+
+// The length of a line, its map included.
+fn line_length(map: u8) -> usize
+    ensures { λ r. ⌜ (r ≡ lineLength map) × (r ≤ 8) ⌝ }
+{
+    let kind = field_size(map, 1, 1);
+    let first = field_size(map, 2, 1);
+    let second = field_size(map, 4, 1);
+    let lower = field_size(map, 8, 2);
+    let upper = field_size(map, 16, 2);
+    1 + kind + first + second + lower + upper
+}
+
+// Are all bytes of the line at a place there.
+fn is_whole(s: &[u8], at: usize) -> bool
+    requires { ⌜ at ≤ length (now s) ⌝ }
+    ensures { λ r. ⌜ r ≡ leb (at + lineLength (getD (now (s .entry)) at 0)) (length (now (s .entry))) ⌝ }
+{
+    let length = s.len();
+    if length <= at {
+        return false;
+    }
+    line_length(s[at]) <= length - at
+}
+
+// The fields of the line at a place.
+fn fields_at(s: &[u8], at: usize) -> Fields
+    requires { ⌜ at + lineLength (getD (now s) at 0) ≤ length (now s) ⌝ }
+    ensures { λ r. ⌜ r ≡ fieldsAt (now (s .entry)) at ⌝ }
+{
+    let map = s[at];
+    let first = at + 1 + field_size(map, 1, 1);
+    let second = first + field_size(map, 2, 1);
+    let lower = second + field_size(map, 4, 1);
+    let upper = lower + field_size(map, 8, 2);
+    Fields {
+        map: map,
+        kind: read8(s, has(map, 1), at + 1),
+        first: read8(s, has(map, 2), first),
+        second: read8(s, has(map, 4), second),
+        lower: read16(s, has(map, 8), lower),
+        upper: read16(s, has(map, 16), upper),
+    }
+}
+
+// Is the field of this weight absent or not 0.
+fn field_good(map: u8, weight: u8, value: u32) -> bool
+    requires { ⌜ 0 < weight ⌝ }
+    ensures { λ r. ⌜ r ≡ written (eqb (map / weight % 2) 1) value ⌝ }
+{
+    is_written(has(map, weight), value)
+}
+
+// Does the map name only fields that the kind allows.
+fn is_allowed(kind: u8, map: u8) -> bool
+    ensures { λ r. ⌜ r ≡ allowed kind map ⌝ }
+{
+    let no_first = !has(map, 2);
+    let no_second = !has(map, 4);
+    let no_lower = !has(map, 8);
+    let no_upper = !has(map, 16);
+    let no_interval = no_lower & no_upper;
+    if kind == 0 {
+        return no_first & (no_second & no_interval);
+    }
+    if kind <= 2 {
+        return no_second & no_interval;
+    }
+    if kind == 3 {
+        return no_interval;
+    }
+    kind <= 5
+}
+
+// Is the proposition one of the policy, or are the operands earlier lines.
+fn operands_good(propositions: u8, line: usize, fields: Fields) -> bool
+    ensures { λ r. ⌜ r ≡ operandsGood propositions line fields (fields .kind) ⌝ }
+{
+    let kind = fields.kind;
+    let first = fields.first;
+    let second = fields.second;
+    if kind == 0 {
+        return true;
+    }
+    if kind == 1 {
+        return first < propositions;
+    }
+    if kind == 2 {
+        return (first as usize) < line;
+    }
+    ((first as usize) < line) & ((second as usize) < line)
+}
+
+// Does the line keep every rule.
+fn good_line(propositions: u8, line: usize, fields: Fields) -> bool
+    ensures { λ r. ⌜ r ≡ goodLine propositions line fields ⌝ }
+{
+    let map = fields.map;
+    let kind = field_good(map, 1, fields.kind as u32);
+    let first = field_good(map, 2, fields.first as u32);
+    let second = field_good(map, 4, fields.second as u32);
+    let lower = field_good(map, 8, fields.lower as u32);
+    let upper = field_good(map, 16, fields.upper as u32);
+    let named = is_allowed(fields.kind, map);
+    let operands = operands_good(propositions, line, fields);
+    let ordered = fields.lower <= fields.upper;
+    let bounded = fields.upper <= 1023;
+    (map < 64)
+        & (kind
+            & (first & (second & (lower & (upper & (named & (operands & (ordered & bounded))))))))
+}
+
+// The meaning of a line.
+fn formula_of(fields: Fields) -> Formula
+    ensures { λ r. ⌜ r ≡ formulaOf fields ⌝ }
+{
+    let kind = fields.kind;
+    if kind == 0 {
+        return Formula::True;
+    }
+    if kind == 1 {
+        return Formula::Proposition(fields.first);
+    }
+    if kind == 2 {
+        return Formula::Not(fields.first);
+    }
+    if kind == 3 {
+        return Formula::Or(fields.first, fields.second);
+    }
+    if kind == 4 {
+        return Formula::Since {
+            left: fields.first,
+            right: fields.second,
+            lower: fields.lower,
+            upper: fields.upper,
+        };
+    }
+    Formula::Until {
+        left: fields.first,
+        right: fields.second,
+        lower: fields.lower,
+        upper: fields.upper,
+    }
+}
+
+// The line's meaning, and whether it is a rule.
+fn subformula_of(fields: Fields) -> Subformula
+    ensures { λ r. ⌜ r ≡ subformulaOf fields ⌝ }
+{
+    let formula = formula_of(fields);
+    let rule = has(fields.map, 32);
+    Subformula {
+        formula: formula,
+        rule: rule,
+    }
+}
+
+// Is a heading number from least to most.
+fn in_range(least: usize, most: usize, n: usize) -> bool
+    ensures { λ r. ⌜ r ≡ within least most n ⌝ }
+{
+    (least <= n) & (n <= most)
+}
+
+// The first heading number that is out of range.
+fn heading_answer(s: &[u8]) -> Answer
+    requires { ⌜ 5 ≤ length (now s) ⌝ }
+    ensures { λ r. ⌜ r ≡ headingAnswer (now (s .entry)) ⌝ }
+{
+    if !in_range(1, 32, s[0] as usize) {
+        return Answer::Refused(Refusal::BadHeading(0));
+    }
+    if !in_range(1, 16, s[1] as usize) {
+        return Answer::Refused(Refusal::BadHeading(1));
+    }
+    if !in_range(1, 1024, word(s[2], s[3]) as usize) {
+        return Answer::Refused(Refusal::BadHeading(2));
+    }
+    if !in_range(1, 64, s[4] as usize) {
+        return Answer::Refused(Refusal::BadHeading(4));
+    }
+    Answer::Accepted
+}
+
+// Reads the first count lines, one after another.
+fn scan(s: &[u8], count: usize) -> Scanned
+    requires { ⌜ (5 ≤ length (now s)) × (count ≤ 64) ⌝ }
+    ensures { λ r. ⌜ Scans (now (s .entry)) count r ⌝ }
+{
+    let propositions = s[0];
+    let none = Subformula {
+        formula: Formula::True,
+        rule: false,
+    };
+    let mut subformulas = [none; 64];
+    let mut rules = 0;
+    let mut at = 5;
+    let mut i = 0;
+    while i < count {
+        if !is_whole(s, at) {
+            return Scanned {
+                answer: Answer::Refused(Refusal::TruncatedPolicy(s.len())),
+                at: at,
+                rules: rules,
+                subformulas: subformulas,
+            };
+        }
+        let fields = fields_at(s, at);
+        if !good_line(propositions, i, fields) {
+            return Scanned {
+                answer: Answer::Refused(Refusal::BadSubformula(at)),
+                at: at,
+                rules: rules,
+                subformulas: subformulas,
+            };
+        }
+        let subformula = subformula_of(fields);
+        subformulas[i] = subformula;
+        let map = fields.map;
+        rules += field_size(map, 32, 1);
+        at += line_length(map);
+        i += 1;
+    }
+    Scanned {
+        answer: Answer::Accepted,
+        at: at,
+        rules: rules,
+        subformulas: subformulas,
+    }
+}
+
+// What stands beside a refusal.
+fn refused(r: Refusal) -> Decoded
+    ensures { λ d. ⌜ d ≡ withAnswer (Answer.Refused r) blank ⌝ }
+{
+    let none = Subformula {
+        formula: Formula::True,
+        rule: false,
+    };
+    let sizes = Sizes {
+        propositions: 0,
+        components: 0,
+        minutes: 0,
+    };
+    let policy = Policy {
+        sizes: sizes,
+        count: 0,
+        rules: 0,
+        subformulas: [none; 64],
+    };
+    Decoded {
+        answer: Answer::Refused(r),
+        policy: policy,
+    }
+}
+
+// Nothing follows the lines, and one to eight of them are rules.
+fn closing_answer(length: usize, at: usize, rules: usize) -> Answer
+    ensures { λ r. ⌜ r ≡ closingAnswer length at rules ⌝ }
+{
+    if at != length {
+        return Answer::Refused(Refusal::TruncatedPolicy(at));
+    }
+    if !in_range(1, 8, rules) {
+        return Answer::Refused(Refusal::RuleCount);
+    }
+    Answer::Accepted
+}
+
+// The heading's numbers but the last.
+fn sizes_of(s: &[u8]) -> Sizes
+    requires { ⌜ 5 ≤ length (now s) ⌝ }
+    ensures { λ r. ⌜ r ≡ sizesOf (now (s .entry)) ⌝ }
+{
+    Sizes {
+        propositions: s[0] as usize,
+        components: s[1] as usize,
+        minutes: word(s[2], s[3]) as usize,
+    }
+}
+
+// Reads a policy whose heading is good.
+fn decode_lines(s: &[u8]) -> Decoded
+    requires { ⌜ (5 ≤ length (now s)) × (headingAnswer (now s) ≡ Answer.Accepted) ⌝ }
+    ensures { λ r. ⌜ r ≡ decodeOf (now (s .entry)) ⌝ }
+{
+    let count = s[4] as usize;
+    let lines = scan(s, count);
+    let answer = lines.answer;
+    let at = lines.at;
+    let rules = lines.rules;
+    let subformulas = lines.subformulas;
+    match answer {
+        Answer::Refused(r) => refused(r),
+        Answer::Accepted => {
+            let closing = closing_answer(s.len(), at, rules);
+            match closing {
+                Answer::Refused(r) => refused(r),
+                Answer::Accepted => Decoded {
+                    answer: Answer::Accepted,
+                    policy: Policy {
+                        sizes: sizes_of(s),
+                        count: count,
+                        rules: rules,
+                        subformulas: subformulas,
+                    },
+                },
+            }
+        }
+    }
+}
+
+// Reads a policy, or says why it is refused.
+pub fn decode(s: &[u8]) -> Decoded
+    ensures { λ r. ⌜ r ≡ decodeOf (now (s .entry)) ⌝ }
+{
+    let length = s.len();
+    if length < 5 {
+        return refused(Refusal::TruncatedPolicy(length));
+    }
+    let heading = heading_answer(s);
+    match heading {
+        Answer::Refused(r) => refused(r),
+        Answer::Accepted => decode_lines(s),
+    }
 }

@@ -1,0 +1,88 @@
+-- Each return is one outcome (`Laws`): the length tells the first two, the rules the last two. Assumes nothing.
+use mathlib.Core.Path.{sym, ap, subst, _∙_}
+use Prim.Native.Nat.{ℕ}
+use native.Mathlib.Omega.{arith}
+use borrow.Author.Tests.{not-true, not-false}
+use Rattle.refusal.specs.declared.Refusal.the-variants.{TruncatedMessage}
+use Rattle.message.specs.Format.{goodFields, refusedWith}
+use Rattle.message.specs.Laws.{short, long, bad, good, decodes}
+use Rattle.message.proofs.Reading.{Told, told, accepted}
+use borrow.Author.Needs.{needs}
+use Rattle.message.proofs.decode.Statement.{statement}
+use Rattle.message.proofs.decode.Tie as tie
+
+measure-requires : tie.Need-measure-requires
+measure-requires c κs = search needs
+
+enum-told : tie.Need-enum-told
+enum-told c = search needs
+
+refused-requires : tie.Need-refused-requires
+refused-requires c κs = search needs
+
+enum-known-whole : tie.Need-enum-known-whole
+enum-known-whole c = search needs
+
+refused-requires-2 : tie.Need-refused-requires-2
+refused-requires-2 c κs = search needs
+
+returns : tie.Need-returns
+returns c =
+    let s = c .before .before .before .before .before .before .before .args .s .now in
+    let t = subst (Told s) (sym (c .before .before .before .before .before .measure .ensures) ∙ c .before .before .before .whole .given .1) (told s) in
+    c .refused2 .ensures ∙ ap (λ (n : ℕ). refusedWith (TruncatedMessage n)) (t .0) ∙ sym (decodes (long (omega arith)))
+
+fields-of-requires : tie.Need-fields-of-requires
+fields-of-requires c κs =
+    let s = c .before .before .before .before .before .before .args .s .now in
+    let t = subst (Told s) (sym (c .before .before .before .before .measure .ensures) ∙ c .before .before .whole .given .1) (told s) in
+    t .1
+
+good-message-requires : tie.Need-good-message-requires
+good-message-requires c κs = search needs
+
+refused-requires-3 : tie.Need-refused-requires-3
+refused-requires-3 c κs = search needs
+
+returns-2 : tie.Need-returns-2
+returns-2 c =
+    let s = c .before .before .before .before .before .before .before .before .before .before .args .s .now in
+    let t = subst (Told s) (sym (c .before .before .before .before .before .before .before .before .measure .ensures) ∙ c .before .before .before .before .before .before .whole .given .1) (told s) in
+    c .refused3 .ensures ∙ sym (decodes (bad (omega arith) (ap (goodFields (c .before .before .before .before .before .before .before .before .before .before .args .sizes)) (sym (c .before .before .before .fields-of .ensures)) ∙ sym (c .before .before .good-message .ensures) ∙ not-true _ (c .before .if2 .taken))))
+
+event-of-requires : tie.Need-event-of-requires
+event-of-requires c κs = search needs
+
+cast-t10 : tie.Need-cast-t10
+cast-t10 c = search needs
+
+returns-3 : tie.Need-returns-3
+returns-3 c =
+    let s = c .before .before .before .before .before .args .s .now in
+    let t = subst (Told s) (sym (c .before .before .before .measure .ensures) ∙ c .before .enum-told .given .1) (told s) in
+    c .refused .ensures ∙ sym (decodes (short t))
+
+returns-4 : tie.Need-returns-4
+returns-4 c =
+    let s = c .before .before .before .before .before .before .before .before .before .before .before .args .s .now in
+    let t = subst (Told s) (sym (c .before .before .before .before .before .before .before .before .before .measure .ensures) ∙ c .before .before .before .before .before .before .before .whole .given .1) (told s) in
+    accepted (c .before .event-of .ensures) (c .before .before .before .before .fields-of .ensures) ∙ sym (decodes (good (omega arith) (ap (goodFields (c .before .before .before .before .before .before .before .before .before .before .before .args .sizes)) (sym (c .before .before .before .before .fields-of .ensures)) ∙ sym (c .before .before .before .good-message .ensures) ∙ not-false _ (c .before .before .if2 .left))))
+
+pub decode-spec : {M : Type 1} → statement M
+decode-spec =
+    tie.close
+    (tie.spec
+    measure-requires
+    enum-told
+    refused-requires
+    enum-known-whole
+    refused-requires-2
+    returns
+    fields-of-requires
+    good-message-requires
+    refused-requires-3
+    returns-2
+    event-of-requires
+    cast-t10
+    returns-3
+    returns-4)

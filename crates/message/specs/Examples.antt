@@ -1,0 +1,32 @@
+-- The messages of 01's small shift, under K's sizes: one mark, one station, four minutes.
+use mathlib.Core.Path.{_≡_, refl}
+use mathlib.Core.List.{[], _∷_}
+use Rattle.bits.specs.Digits.{digit, below, expanded}
+use Rattle.refusal.specs.declared.Refusal.the-variants.{TruncatedMessage, BadMessage}
+use Rattle.policy.specs.declared.Sizes.{Sizes}
+use Rattle.policy.specs.declared.Answer.the-variants.{Accepted}
+use Rattle.message.specs.declared.Event.{Event}
+use Rattle.message.specs.declared.Event.the-variants.{Observation, Alive}
+use Rattle.message.specs.declared.Decoded.{Decoded}
+use Rattle.message.specs.Format.{componentOf, minuteOf, numberOf, namedOf, packedOf, fieldsOf, lengthOf, goodAlive, goodObservation, allWritten, goodFields, eventIn, answerOf, refusedWith, decodeOf}
+
+abbrev sizes : Sizes
+sizes = record { propositions = 1; components = 1; minutes = 4 }
+
+abbrev says : Event → Decoded
+says e = record { answer = Accepted; component = 0; event = e }
+
+pub record Small-shift : Type 0 where
+  -- A: minute 0, mark 0 false
+  pub a : decodeOf sizes (0x0C ∷ 0x01 ∷ 0x00 ∷ 0x01 ∷ 0x00 ∷ 0x00 ∷ 0x00 ∷ 0x00 ∷ []) ≡ says (Observation 0 1 1 0)
+  -- B: minute 2, mark 0 true
+  pub b : decodeOf sizes (0x0E ∷ 0x02 ∷ 0x00 ∷ 0x02 ∷ 0x00 ∷ 0x01 ∷ 0x00 ∷ 0x00 ∷ 0x00 ∷ 0x01 ∷ []) ≡ says (Observation 2 2 1 1)
+  -- D: minute 3, no mark
+  pub d : decodeOf sizes (0x06 ∷ 0x03 ∷ 0x00 ∷ 0x03 ∷ 0x00 ∷ []) ≡ says (Observation 3 3 0 0)
+  pub alive : decodeOf sizes (0x10 ∷ []) ≡ says (Alive 0 0)
+  pub no-number : decodeOf sizes (0x00 ∷ []) ≡ refusedWith BadMessage
+  pub empty : decodeOf sizes [] ≡ refusedWith (TruncatedMessage 0)
+
+pub small-shift : Small-shift
+unfolding decodeOf answerOf eventIn goodFields allWritten goodObservation goodAlive lengthOf fieldsOf packedOf namedOf numberOf minuteOf componentOf expanded below digit
+small-shift = record { a = refl; b = refl; d = refl; alive = refl; no-number = refl; empty = refl }

@@ -1,0 +1,3 @@
+pub mod Decoding
+pub mod Looking
+pub mod Calls

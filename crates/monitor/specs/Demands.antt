@@ -1,0 +1,182 @@
+-- What was demanded, as types. Read this file first; each statement stands below the sentence that it formalises. `demand-1`, `demand-2`
+-- and `demand-3` of Proved have these types.
+--
+-- s are the bytes of a card, any bytes; `policyOf s` is what they say where they are accepted. x is a state: the four lent buffers, of any
+-- length and content. b are the bytes of a slip, any bytes.
+use Prim.Native.Nat.{ℕ, zero, suc, _+_, _*_, _≤_, _<_}
+use mathlib.Core.Path.{_≡_}
+use mathlib.Core.Bool.{Bool, true, false, cond}
+use mathlib.Core.Logic.{_⊎_, _↔_, _≢_}
+use mathlib.Core.List.{List, [], _∷_, _++_, List·Memᴰ}
+use lib.ListN.{getD, length}
+use Rattle.kleene.specs.Truth.{true3, false3, codeOf}
+use Rattle.mtl.specs.Textbook.{Holds}
+use Rattle.refusal.specs.declared.Refusal.{Refusal}
+use Rattle.refusal.specs.declared.Refusal.the-variants.{TruncatedPolicy, BadHeading, BadSubformula, RuleCount, BufferSize, CorruptKnowledge, TruncatedMessage, BadMessage, Conflict, OutOfRange}
+use Rattle.policy.specs.declared.Sizes.{Sizes}
+use Rattle.policy.specs.declared.Policy.{Policy}
+use Rattle.policy.specs.declared.Answer.the-variants as C
+use Rattle.policy.specs.Format.{answerOf as policy-answer, policyOf}
+use Rattle.policy.specs.Proper.{formulaAt, rulesOf, Between, Cut, Misheaded, Misformed, Whole}
+use Rattle.policy.specs.Format.{countOf, rulesUpTo}
+use Rattle.message.specs.Format.{lengthOf, goodMessage}
+use Rattle.message.specs.Fixes.{Message, Fixes-number, Fixes-fact, Well-formed, meaningOf}
+use Rattle.message.specs.Proper.{Cut as Cut-message}
+use Rattle.knowledge.specs.Trace.{Trace, Admits, Admits-all, time-point}
+use Rattle.knowledge.specs.Knowledge.{Knowledge, none, noted, valued, fact, number, Sound, Agrees, Known-point}
+use Rattle.valuation.specs.Sheets.{value, standing}
+use Rattle.monitor.specs.declared.Answer.{Answer}
+use Rattle.monitor.specs.declared.Answer.the-variants.{Done, Received, Refused}
+use Rattle.monitor.specs.State.{State, Outcome, Sized, open-state, receive, after, Taken, accepted}
+
+-- ---- words
+
+-- the sizes of the card
+abbrev pub sizesOf : List ℕ → Sizes
+sizesOf s = policyOf s .sizes
+
+-- "The code at rule times M + minute of the verdict sheet"
+abbrev pub shown : Policy → State → ℕ → ℕ → ℕ
+shown p x r t = getD (x .verdicts) (r * p .sizes .minutes + t) 0
+
+-- the line that is rule r
+abbrev pub rule-line : Policy → ℕ → ℕ
+rule-line p r = getD (rulesOf p) r 0
+
+-- some shift fits the record and the slip
+abbrev pub Some-trace : Sizes → Knowledge → Message → Type 0
+Some-trace z k m = (w : Trace z) × Agrees z w k × Admits z w m
+
+-- "The plain two-valued verdict of a rule at a busy minute of that shift is kept where its line so reads true, broken where it reads false; a
+-- quiet minute has none." The reading is the textbook one: a proposition
+pub data Plain (p : Policy) (w : Trace (p .sizes)) (r t : ℕ) : ℕ → Type 0 where
+  kept : time-point (p .sizes) w t ≡ true → Holds (time-point (p .sizes) w) (w .value) (formulaAt p) (rule-line p r) t → Plain p w r t 1
+  broken : time-point (p .sizes) w t ≡ true → (Holds (time-point (p .sizes) w) (w .value) (formulaAt p) (rule-line p r) t → ⊥) → Plain p w r t 2
+
+-- The sheets are the reading over the state's knowledge: "the sheet shows kept or broken at a minute exactly when that minute is known busy
+-- and the three-valued MTL reading of the rule over what is known is true or false; otherwise blank"
+pub record Sheets (p : Policy) (x : State) : Type 0 where
+  pub valuation : (l t : ℕ) → l < p .count → t < p .sizes .minutes
+      → getD (x .valuation) (l * p .sizes .minutes + t) 0 ≡ codeOf (value p (x .known) l t)
+  pub kept : (r t : ℕ) → r < p .rules → t < p .sizes .minutes
+      → (shown p x r t ≡ 1) ↔ (Known-point (p .sizes) (x .known) t × (value p (x .known) (rule-line p r) t ≡ true3))
+  pub broken : (r t : ℕ) → r < p .rules → t < p .sizes .minutes
+      → (shown p x r t ≡ 2) ↔ (Known-point (p .sizes) (x .known) t × (value p (x .known) (rule-line p r) t ≡ false3))
+  pub blank : (r t : ℕ) → r < p .rules → t < p .sizes .minutes → shown p x r t ≢ 1 → shown p x r t ≢ 2 → shown p x r t ≡ 0
+
+-- The knowledge is what the opening and the messages of Q fix: a number or a fact is known exactly when one of them fixes it, and at that
+-- value; every other cell says "not known"
+pub record Exact (z : Sizes) (k : Knowledge) (Q : Message → Type 0) : Type 0 where
+  pub numbers : (c p n : ℕ) → c < z .components → p ≤ z .minutes → n < none
+      → (number z k c p ≡ n) ↔ (((p ≡ 0) × (n ≡ 0)) ⊎ ((m : Message) × Q m × (m .component ≡ c) × Fixes-number (m .event) p n))
+  pub facts : (i t : ℕ) (b : Bool) → i < z .propositions → t < z .minutes
+      → (fact k i t ≡ cond b true3 false3) ↔ ((m : Message) × Q m × Fixes-fact (m .event) i t b)
+  -- a number that is not known is 65535; no value bit where its mark isn't known, and no mark beyond the card (Sound), of 32 bits
+  pub unknown-number : (c p : ℕ) → c < z .components → p ≤ z .minutes → number z k c p ≤ none
+  pub words : (i : ℕ) → getD (k .facts) i 0 < 4294967296
+  pub sound : Sound z k
+
+-- ---- demand 1
+
+-- "Each refusal carries its number": each is answered exactly for its own cause, and none earlier. "No refused call changes anything lent to
+-- it." (That no call reads or writes out of bounds, wraps a sum or fails to end is proved of every function of the code.)
+-- 1 to 4, of any call that is lent a card
+pub record Policy-causes (s : List ℕ) (a : Answer) : Type 0 where
+  pub one : (at : ℕ) → (a ≡ Refused (TruncatedPolicy at)) ↔ Cut s at
+  pub two : (at : ℕ) → (a ≡ Refused (BadHeading at)) ↔ Misheaded s at
+  pub three : (at : ℕ) → (a ≡ Refused (BadSubformula at)) ↔ Misformed s at
+  pub four : (a ≡ Refused RuleCount) ↔ (Whole s × (Between 1 8 (rulesUpTo s (countOf s)) → ⊥))
+
+-- the card is accepted: checks 1 to 4 let it pass
+abbrev pub Policy-passed : List ℕ → Type 0
+Policy-passed s = Whole s × Between 1 8 (rulesUpTo s (countOf s))
+
+-- an opening, whose outcome is o: 1 to 5
+pub record Opening-causes (s : List ℕ) (x : State) (o : Outcome) : Type 0 where
+  pub policy : Policy-causes s (o .answer)
+  pub five : (o .answer ≡ Refused BufferSize) ↔ (Policy-passed s × (Sized (policyOf s) x → ⊥))
+  pub done : (o .answer ≡ Done) ↔ (Policy-passed s × Sized (policyOf s) x)
+  pub unwritten : (r : Refusal) → o .answer ≡ Refused r → o .state ≡ x
+
+-- the checks 1 to 6 let the card and the record pass
+pub record Passed (s : List ℕ) (x : State) : Type 0 where
+  pub policy : Policy-passed s
+  pub sized : Sized (policyOf s) x
+  pub sound : Sound (sizesOf s) (x .known)
+
+-- a take, whose outcome is o: 1 to 9
+pub record Take-causes (s : List ℕ) (x : State) (b : List ℕ) (o : Outcome) : Type 0 where
+  pub policy : Policy-causes s (o .answer)
+  pub five : (o .answer ≡ Refused BufferSize) ↔ (Policy-passed s × (Sized (policyOf s) x → ⊥))
+  pub six : (o .answer ≡ Refused CorruptKnowledge) ↔ (Policy-passed s × Sized (policyOf s) x × (Sound (sizesOf s) (x .known) → ⊥))
+  pub seven : (at : ℕ) → (o .answer ≡ Refused (TruncatedMessage at)) ↔ (Passed s x × Cut-message b at)
+  pub eight : (o .answer ≡ Refused BadMessage) ↔ (Passed s x × (length b ≡ lengthOf b) × (goodMessage (sizesOf s) b ≡ false))
+  pub nine : (o .answer ≡ Refused Conflict) ↔ (Passed s x × Well-formed (sizesOf s) b × (Some-trace (sizesOf s) (x .known) (meaningOf b) → ⊥))
+  pub taken : Taken (o .answer) ↔ (Passed s x × Well-formed (sizesOf s) b × Some-trace (sizesOf s) (x .known) (meaningOf b))
+  pub unwritten : (r : Refusal) → o .answer ≡ Refused r → o .state ≡ x
+
+pub record Demand-1 : Type 0 where
+  pub opening : (s : List ℕ) (x : State) → Opening-causes s x (open-state s x)
+  pub take : (s : List ℕ) (x : State) (b : List ℕ) → Take-causes s x b (receive s x b)
+
+-- ---- demand 2
+
+-- "An accepted slip makes known in the record all that it fixes, at the values it fixes, and changes nothing else in counts or facts"
+pub record Gains (z : Sizes) (k k′ : Knowledge) (m : Message) : Type 0 where
+  pub number-fixed : (p n : ℕ) → Fixes-number (m .event) p n → number z k′ (m .component) p ≡ n
+  pub number-kept : (c p : ℕ) → p ≤ z .minutes → ((n : ℕ) → m .component ≡ c → Fixes-number (m .event) p n → ⊥) → number z k′ c p ≡ number z k c p
+  pub fact-fixed : (i t : ℕ) (b : Bool) → i < 32 → Fixes-fact (m .event) i t b → (noted k′ i t ≡ true) × (valued k′ i t ≡ b)
+  pub fact-kept : (i t : ℕ) → i < 32 → ((b : Bool) → Fixes-fact (m .event) i t b → ⊥) → (noted k′ i t ≡ noted k i t) × (valued k′ i t ≡ valued k i t)
+
+pub record Demand-2 : Type 0 where
+  -- "After every accepted slip the sheet shows .." (Sheets), over the record with what the slip fixes
+  pub sheets : (s : List ℕ) (x : State) (b : List ℕ) → Taken (receive s x b .answer) → Sheets (policyOf s) (receive s x b .state)
+  pub gains : (s : List ℕ) (x : State) (b : List ℕ) → Taken (receive s x b .answer) → Gains (sizesOf s) (x .known) (receive s x b .state .known) (meaningOf b)
+  -- the verdict total "equals the non-blank cells"
+  pub total : (s : List ℕ) (x : State) (b : List ℕ) (n : ℕ) → receive s x b .answer ≡ Received n → n ≡ standing (receive s x b .state .verdicts)
+  -- "A well-formed slip that no earlier check turns away is refused as a clash exactly when no shift fits the record and the slip"
+  pub conflict : (s : List ℕ) (x : State) (b : List ℕ) → Passed s x → Well-formed (sizesOf s) b
+      → (receive s x b .answer ≡ Refused Conflict) ↔ (Some-trace (sizesOf s) (x .known) (meaningOf b) → ⊥)
+
+-- ---- demand 3
+
+-- the messages that the well-formed members of a list say
+abbrev pub Sends : Sizes → List (List ℕ) → Message → Type 0
+Sends z bs m = (b : List ℕ) × List·Memᴰ b bs × Well-formed z b × (meaningOf b ≡ m)
+
+-- in this list a slip is accepted exactly when it is well-formed: "accept all of these and no others"
+abbrev pub All-taken : List ℕ → State → List (List ℕ) → Type 0
+All-taken s x bs = (us : List (List ℕ)) (b : List ℕ) (vs : List (List ℕ)) → bs ≡ us ++ (b ∷ vs)
+    → Taken (receive s (after s x us) b .answer) ↔ Well-formed (sizesOf s) b
+
+-- what two lists with the same well-formed slips share
+pub record Same (s : List ℕ) (x y : State) (xs ys : List (List ℕ)) : Type 0 where
+  pub left : All-taken s x xs
+  pub right : All-taken s y ys
+  -- "the same record, work sheet and verdict sheet", in every cell
+  pub state : after s x xs ≡ after s y ys
+  -- "those that 01 gives for what the opening and these slips make known"
+  pub sized : Sized (policyOf s) (after s x xs)
+  pub exact : Exact (sizesOf s) (after s x xs .known) (Sends (sizesOf s) xs)
+  pub sheets : Sheets (policyOf s) (after s x xs)
+
+-- "For every list of takes, refused ones included, from a fresh record under one card": right after an opening that answered done, whatever
+-- the buffers x held before
+pub record Demand-3 : Type 0 where
+  -- "a slip is accepted exactly when it is well-formed and some one shift could have sent it and every slip accepted before it"
+  pub accept : (s : List ℕ) (x : State) → open-state s x .answer ≡ Done → (bs : List (List ℕ)) (b : List ℕ)
+      → Taken (receive s (after s x bs) b .answer)
+      ↔ (Well-formed (sizesOf s) b × ((w : Trace (sizesOf s)) × Admits-all (sizesOf s) w (accepted s x bs) × Admits (sizesOf s) w (meaningOf b)))
+  -- "every kept or broken after any beginning of the list stands at its end"
+  pub stand : (s : List ℕ) (x : State) → open-state s x .answer ≡ Done → (bs cs : List (List ℕ)) (r t : ℕ) → r < policyOf s .rules → t < sizesOf s .minutes
+      → shown (policyOf s) (after s x bs) r t ≢ 0 → shown (policyOf s) (after s x (bs ++ cs)) r t ≡ shown (policyOf s) (after s x bs) r t
+  -- "and is the plain two-valued verdict in every shift that could have sent the slips accepted in that beginning"
+  pub truth : (s : List ℕ) (x : State) → open-state s x .answer ≡ Done → (bs : List (List ℕ)) (r t : ℕ) → r < policyOf s .rules → t < sizesOf s .minutes
+      → shown (policyOf s) (after s x bs) r t ≢ 0 → (w : Trace (sizesOf s)) → Admits-all (sizesOf s) w (accepted s x bs)
+      → Plain (policyOf s) w r t (shown (policyOf s) (after s x bs) r t)
+  -- "Two such lists with the same well-formed slips (any order, any repeats, anything ill-formed between), all of which some one shift could
+  -- have sent, both accept all of these and no others and leave the same record, work sheet and verdict sheet"
+  pub same : (s : List ℕ) (x y : State) → open-state s x .answer ≡ Done → open-state s y .answer ≡ Done → (xs ys : List (List ℕ))
+      → ((b : List ℕ) → Well-formed (sizesOf s) b → List·Memᴰ b xs ↔ List·Memᴰ b ys)
+      → (w : Trace (sizesOf s)) → ((b : List ℕ) → List·Memᴰ b xs → Well-formed (sizesOf s) b → Admits (sizesOf s) w (meaningOf b))
+      → Same s x y xs ys

@@ -1,0 +1,3 @@
+pub mod Decoding
+pub mod Line
+pub mod Lines

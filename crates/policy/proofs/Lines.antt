@@ -1,0 +1,80 @@
+-- The table of subformulas as the loop fills it, one line after another. Assumes nothing.
+use Prim.Native.Nat.{ℕ, suc, _+_, _≤_, _<_}
+use mathlib.Core.Path.{_≡_, refl, sym}
+use mathlib.Core.Bool.{Bool, true, false}
+use mathlib.Core.List.{List}
+use native.Mathlib.Omega.{arith}
+use borrow.Author.Tests.{leb-true}
+use lib.Dec.{leb}
+use lib.ListN.{length, getD, set, replicate}
+use Rattle.encoding.specs.Fields.{has, size}
+use Rattle.refusal.specs.declared.Refusal.{Refusal}
+use Rattle.refusal.specs.declared.Refusal.the-variants.{TruncatedPolicy, BadSubformula}
+use Rattle.policy.specs.declared.Subformula.{Subformula}
+use Rattle.policy.specs.declared.Fields.{Fields}
+use Rattle.policy.specs.declared.Answer.the-variants.{Accepted, Refused}
+use Rattle.policy.specs.Format.{lineLength, fieldsAt, goodLine, subformulaOf, subformulaAt, offset, linesAnswer, noLine, subformulasOf, rulesUpTo}
+use Rattle.policy.specs.Lines.{Scans}
+use Rattle.policy.specs.Table.{none-yet, one-more}
+use Rattle.policy.specs.Answers.{cut-line, bad-line, fine-line, next-line, first-refused}
+
+-- the first i lines are accepted and read
+pub record UpTo (s : List ℕ) (i : ℕ) (subformulas : List Subformula) (rules at : ℕ) : Type 0 where
+  pub accepted : linesAnswer s i ≡ Accepted
+  pub place : at ≡ offset s i
+  pub inside : at ≤ length s
+  pub counted : rules ≡ rulesUpTo s i
+  pub few : rules ≤ i
+  pub table : subformulas ≡ subformulasOf s i
+
+pub nothing-read : (s : List ℕ) → 5 ≤ length s → UpTo s 0 (replicate 64 noLine) 0 5
+unfolding linesAnswer offset rulesUpTo
+nothing-read s h = record { accepted = refl; place = refl; inside = h; counted = refl; few = omega arith; table = none-yet s }
+
+-- what the code knows of the line at the place
+module _ (s : List ℕ) (i : ℕ) (t : List Subformula) (rules at : ℕ) (u : UpTo s i t rules at) where
+  ends : {b : Bool} → leb (at + lineLength (getD s at 0)) (length s) ≡ b → leb (offset s (suc i)) (length s) ≡ b
+  unfolding offset
+  ends e = rw (← u .place) e
+
+  keeps : {b : Bool} → goodLine (getD s 0 0) i (fieldsAt s at) ≡ b → goodLine (getD s 0 0) i (fieldsAt s (offset s i)) ≡ b
+  keeps e = rw (← u .place) e
+
+  pub cut : (n : ℕ) → i < n → leb (at + lineLength (getD s at 0)) (length s) ≡ false → linesAnswer s n ≡ Refused (TruncatedPolicy (length s))
+  cut n h e = first-refused s i n _ h (u .accepted) (cut-line s i (ends e))
+
+  -- the code's fields of that line
+  module _ (f : Fields) (same : f ≡ fieldsAt s at) (whole : leb (at + lineLength (getD s at 0)) (length s) ≡ true) where
+    its-map : f .map ≡ getD s at 0
+    unfolding fieldsAt
+    its-map = rw same
+
+    pub bad : (n : ℕ) → i < n → goodLine (getD s 0 0) i f ≡ false → linesAnswer s n ≡ Refused (BadSubformula at)
+    bad n h g = first-refused s i n _ h (u .accepted) (rw (u .place) (bad-line s i (ends whole) (keeps (rw (← same) g))))
+
+    pub one-line : {v : Subformula} {n m : ℕ} → i < 64 → goodLine (getD s 0 0) i f ≡ true → v ≡ subformulaOf f
+        → (n ≡ size (has (f .map) 5) 1) × (n ≤ 1) → m ≡ lineLength (f .map) → UpTo s (suc i) (set t i v) (rules + n) (at + m)
+    unfolding offset rulesUpTo subformulaAt
+    one-line h g v n m =
+        record {
+          accepted = next-line s i (u .accepted) (fine-line s i (ends whole) (keeps (rw (← same) g)));
+          place = rw (m, its-map, u .place);
+          inside = rw (m, its-map) (leb-true _ _ whole);
+          counted = rw (n .0, its-map, u .counted, u .place);
+          few = omega (arith, u .few);
+          table = rw (u .table, v, same, u .place) (one-more s i h);
+        }
+
+pub refused-lines : (s : List ℕ) (n : ℕ) (t : List Subformula) (rules at : ℕ) (r : Refusal) → linesAnswer s n ≡ Refused r
+    → Scans s n (record { answer = Refused r; at = at; rules = rules; subformulas = t })
+refused-lines s n t rules at r e =
+    record {
+      answer = sym e;
+      at = λ f. absurd (let z : _≡_ {A = ℕ} 0 1 = cc in omega arith);
+      rules = λ f. absurd (let z : _≡_ {A = ℕ} 0 1 = cc in omega arith);
+      subformulas = λ f. absurd (let z : _≡_ {A = ℕ} 0 1 = cc in omega arith);
+    }
+
+pub read-lines : (s : List ℕ) (n : ℕ) (t : List Subformula) (rules at : ℕ) → UpTo s n t rules at
+    → Scans s n (record { answer = Accepted; at = at; rules = rules; subformulas = t })
+read-lines s n t rules at u = record { answer = sym (u .accepted); at = λ f. u .place; rules = λ f. u .counted; subformulas = λ f. u .table }

@@ -1,0 +1,14 @@
+-- What reading the lines one after another finds.
+use Prim.Native.Nat.{ℕ}
+use mathlib.Core.Path.{_≡_}
+use mathlib.Core.List.{List}
+use Rattle.policy.specs.declared.Scanned.{Scanned}
+use Rattle.policy.specs.declared.Answer.the-variants.{Accepted}
+use Rattle.policy.specs.Format.{offset, linesAnswer, subformulasOf, rulesUpTo}
+
+-- the answer of the first n lines, and where they are accepted the place after them, their rules and the table
+pub record Scans (s : List ℕ) (n : ℕ) (r : Scanned) : Type 0 where
+  pub answer : r .answer ≡ linesAnswer s n
+  pub at : r .answer ≡ Accepted → r .at ≡ offset s n
+  pub rules : r .answer ≡ Accepted → r .rules ≡ rulesUpTo s n
+  pub subformulas : r .answer ≡ Accepted → r .subformulas ≡ subformulasOf s n
