@@ -80,3 +80,7 @@ each-same n f g h =
     agree
     (same (λ (p : (i : ℕ) → i < n → f i ≡ true) i l. sym (h i l) ∙ p i l) (λ q i l. h i l ∙ q i l) (each n f (λ j. f j ≡ true) (λ j. itself (f j))))
     (each n g (λ j. g j ≡ true) (λ j. itself (g j)))
+
+-- for a function that asks w first, and where that answers b then the rest
+pub first : (r b w rest : Bool) → r ≡ w → r ≡ b → (b && rest) ≡ (w && rest)
+first r b w rest e g = ap (λ (x : Bool). x && rest) (sym g ∙ e)

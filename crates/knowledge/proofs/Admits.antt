@@ -1,12 +1,11 @@
 -- A message goes with sound knowledge exactly when its facts agree and each number that it fixes may be stored in its component's run.
 -- Assumes nothing.
-use Prim.Native.Nat.{ℕ, zero, suc, _+_, _-_, _*_, _≤_, _<_}
+use Prim.Native.Nat.{ℕ, suc, _+_, _-_, _*_, _≤_, _<_}
 use native.Mathlib.Omega.{arith}
 use native.Mathlib.Decide.{ℕ-discrete}
-use mathlib.Core.Path.{_≡_, refl, sym, ap, ap₂, subst, _∙_}
+use mathlib.Core.Path.{_≡_, refl, sym, ap, _∙_}
 use mathlib.Core.Bool.{Bool, true, false, not, _&&_, _||_, Bool·beq}
 use mathlib.Core.Logic.{_⊎_, inl, inr}
-use mathlib.Core.List.{List}
 use lib.ListN.{getD}
 use Rattle.bits.specs.Bits.{bit}
 use Rattle.mtl.specs.Algebra.{two, all}
@@ -14,9 +13,8 @@ use Rattle.mtl.specs.Folds.{pair}
 use Rattle.decide.specs.Decide.{Decides}
 use Rattle.decide.specs.Laws.{agree, same, both}
 use Rattle.policy.specs.declared.Sizes.{Sizes}
-use Rattle.message.specs.declared.Event.{Event}
 use Rattle.message.specs.declared.Event.the-variants.{Observation, Alive}
-use Rattle.message.specs.Fixes.{Message, Fixes-number, Fixes-fact, Fits, Fits-event}
+use Rattle.message.specs.Fixes.{Message, Fixes-number, Fixes-fact, Fits}
 use Rattle.knowledge.specs.Knowledge.{Knowledge, none, number, noted, valued, Sound, sound, Sized, stored, free-number, free, admits}
 use Rattle.knowledge.specs.Laws.{Free, free-law, sound-law}
 use Rattle.knowledge.specs.Store.{Fact, number-hit, number-either, fact-cases, fixed-fact}

@@ -1,19 +1,17 @@
 -- What a run tells of the minutes between two neighbouring known places, and of those after the last.
 -- Assumes nothing.
-use mathlib.Core.Path.{_≡_, refl, sym, subst, _∙_}
-use mathlib.Core.Bool.{true, false}
+use mathlib.Core.Path.{_≡_, sym, subst}
 use mathlib.Core.Logic.{_⊎_, ⊎-elim}
 use Prim.Native.Nat.{ℕ, suc, _+_, _-_, _≤_, _<_}
 use native.Mathlib.Nat.{eq-or-lt-of-le}
 use native.Mathlib.Decide.{ℕ-discrete}
 use native.Mathlib.Omega.{arith}
-use lib.Dec.{eqb}
 use borrow.Author.Tests.{eq-eqb, ne-eqb}
 use Rattle.rows.specs.Laws.{lt-or-le}
 use Rattle.decide.specs.Laws.{is-false}
 use Rattle.kleene.specs.Truth.{unknown, true3, false3}
 use Rattle.knowledge.specs.Knowledge.{none}
-use Rattle.knowledge.specs.Run.{Follow, Steady, Next, Rises, Flat, rises, level, gap, told}
+use Rattle.knowledge.specs.Run.{Steady, Next, Rises, Flat, gap, told}
 use Rattle.knowledge.specs.Runs.{rises-decides, level-decides}
 use Rattle.knowledge.proofs.Walk.{not-between}
 

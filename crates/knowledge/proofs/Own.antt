@@ -1,20 +1,19 @@
 -- The part of the list that is lent for a message's own component, and the answer read from it.
 -- Assumes nothing.
-use Prim.Native.Nat.{ℕ, suc, _+_, _-_, _*_, _≤_, _<_}
+use Prim.Native.Nat.{ℕ, suc, _+_, _-_, _*_, _<_}
 use native.Mathlib.Numerals.{add-one}
 use native.Mathlib.Omega.{arith}
-use mathlib.Core.Path.{_≡_, refl, sym, ap, ap₂, _∙_}
+use mathlib.Core.Path.{_≡_, sym, ap, ap₂, _∙_}
 use mathlib.Core.Bool.{Bool, _&&_}
 use mathlib.Core.List.{List}
 use lib.ListN.{getD, length, take, drop}
 use Rattle.policy.specs.declared.Sizes.{Sizes}
 use Rattle.message.specs.declared.Event.the-variants.{Observation, Alive}
 use Rattle.message.specs.Fixes.{Fits}
-use Rattle.knowledge.specs.Knowledge.{none, number, Sound, Sized, admits}
+use Rattle.knowledge.specs.Knowledge.{number, Sound, Sized, admits}
 use Rattle.knowledge.specs.Run.{cell, held, sent, Steady, may, words-agree}
 use Rattle.knowledge.specs.Runs.{runs-of}
-use Rattle.knowledge.proofs.Putting.{steady-less}
-use Rattle.knowledge.proofs.Parts.{part-long, part-at, may-same}
+use Rattle.knowledge.proofs.Parts.{part-long, part-is-steady, part-may}
 use Rattle.knowledge.proofs.Admits.{admits-observation, admits-alive}
 
 module _ (z : Sizes) (numbers facts : List ℕ) (long : Sized z (held numbers facts)) (clean : Sound z (held numbers facts)) (c : ℕ) (inside : c < z .components) where
@@ -30,18 +29,12 @@ module _ (z : Sizes) (numbers facts : List ℕ) (long : Sized z (held numbers fa
   pub own-long : length own ≡ suc (z .minutes)
   own-long = part-long numbers (z .minutes) (z .components) c at (long .numbers) inside start
 
-  own-at : (i : ℕ) → i < suc (z .minutes) → cell own i ≡ number z (held numbers facts) c i
-  unfolding number
-  own-at = part-at numbers (z .minutes) (z .components) c at (long .numbers) inside start
-
   pub own-steady : Steady (cell own) (length own)
-  unfolding number
-  own-steady =
-      let S = runs-of z (held numbers facts) clean c inside in
-      rw own-long (steady-less (cell own) (number z (held numbers facts) c) (suc (z .minutes)) (own-at 0 (omega arith) ∙ S .first) (λ i h k. own-at i h) S)
+  own-steady = part-is-steady numbers (z .minutes) (z .components) c at (long .numbers) inside start (runs-of z (held numbers facts) clean c inside)
 
   own-may : (p v : ℕ) → p < suc (z .minutes) → may (cell own) (length own) p v ≡ may (number z (held numbers facts) c) (suc (z .minutes)) p v
-  own-may p v l = rw own-long (may-same (cell own) (number z (held numbers facts) c) (suc (z .minutes)) p v l own-at)
+  unfolding number
+  own-may = part-may numbers (z .minutes) (z .components) c at (long .numbers) inside start
 
   pub own-observation : (t n named values : ℕ) → Fits z (sent c (Observation t n named values))
       → (words-agree (getD facts (2 * t) 0) (getD facts (2 * t + 1) 0) named values && (may (cell own) (length own) (suc t) n && may (cell own) (length own) t (n - 1)))

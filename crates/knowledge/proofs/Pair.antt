@@ -1,11 +1,11 @@
 -- An observation's two numbers may be stored exactly when each of them may.
 -- Assumes nothing.
-use mathlib.Core.Path.{_≡_, refl, sym, ap, subst, _∙_}
-use Prim.Native.Nat.{ℕ, suc, _+_, _-_, _≤_, _<_}
+use mathlib.Core.Path.{_≡_, sym, ap, subst, _∙_}
+use Prim.Native.Nat.{ℕ, suc, _-_, _<_}
 use native.Mathlib.Decide.{ℕ-discrete}
 use native.Mathlib.Omega.{arith}
 use Rattle.knowledge.specs.Knowledge.{none}
-use Rattle.knowledge.specs.Run.{Follow, Steady, put, May}
+use Rattle.knowledge.specs.Run.{Follow, Steady, put}
 use Rattle.knowledge.proofs.Putting.{at-place, other, follow-up, steady-less}
 
 module _ (f : ℕ → ℕ) (n t v w : ℕ) (apart : w ≡ suc v) where

@@ -10,12 +10,11 @@ use native.Mathlib.Omega.{arith}
 use lib.Dec.{ltb, eqb}
 use lib.ListN.{length, getD, take, drop, length-take, length-drop}
 use lib.Seq.{getD-take, getD-drop}
-use Rattle.kleene.specs.Truth.{unknown, true3, false3}
 use Rattle.mtl.specs.Algebra.{two, all}
 use Rattle.decide.specs.Laws.{agree, same}
 use Rattle.policy.specs.declared.Sizes.{Sizes}
 use Rattle.knowledge.specs.Knowledge.{none, number, noted, valued, sound}
-use Rattle.knowledge.specs.Run.{cell, run-of, held, follow, steady, Steady, rises, Rises, level, Flat, told, put, may, word-sound}
+use Rattle.knowledge.specs.Run.{cell, run-of, held, follow, steady, Steady, Rises, Flat, told, put, may, word-sound}
 use Rattle.knowledge.specs.Runs.{steady-decides, rises-decides, level-decides}
 use Rattle.knowledge.proofs.Putting.{steady-less}
 
@@ -25,30 +24,13 @@ one-run c k = rw add-one (suc-mul c k)
 pub room : (c n k : ℕ) → c < n → c * k + k ≤ n * k
 room c n k l = let h = mul-le-mul-right k l in omega (arith, suc-mul c k, h)
 
-pub any-default : (l : List ℕ) (i a b : ℕ) → i < length l → getD l i a ≡ getD l i b
+any-default : (l : List ℕ) (i a b : ℕ) → i < length l → getD l i a ≡ getD l i b
 any-default [] i a b h = absurd (let z : ⊥ = omega arith in z)
 any-default (x ∷ l) zero a b h = refl
 any-default (x ∷ l) (suc i) a b h = any-default l i a b (omega arith)
 
--- the part of the list that is lent for component c of n
-module _ (l : List ℕ) (m n c at : ℕ) (long : length l ≡ n * suc m) (in-list : c < n) (start : at ≡ c * suc m) where
-  abbrev pub part : List ℕ
-  part = take (at + (m + 1) - at) (drop at l)
-
-  pub part-long : length part ≡ suc m
-  part-long = simp (length-take, length-drop) (omega (arith, room c n (suc m) in-list))
-
-  pub part-at : (i : ℕ) → i < suc m → cell part i ≡ run-of l m c i
-  part-at i h =
-      let e : at + (m + 1) - at ≡ suc m = omega arith in
-      let inside : i < at + (m + 1) - at = omega arith in
-      getD-take (at + (m + 1) - at) (drop at l) i 0 inside
-      ∙ getD-drop at l i 0
-      ∙ ap (λ (x : ℕ). getD l (x + i) 0) start
-      ∙ any-default l (c * suc m + i) 0 none (omega (arith, room c n (suc m) in-list))
-
 -- runs that agree at their first n places
-pub steady-same : (f g : ℕ → ℕ) (n : ℕ) → 0 < n → ((i : ℕ) → i < n → f i ≡ g i) → steady f n ≡ steady g n
+steady-same : (f g : ℕ → ℕ) (n : ℕ) → 0 < n → ((i : ℕ) → i < n → f i ≡ g i) → steady f n ≡ steady g n
 steady-same f g n l e =
     agree
     (same
@@ -57,7 +39,7 @@ steady-same f g n l e =
     (steady-decides f n))
     (steady-decides g n)
 
-pub may-same : (f g : ℕ → ℕ) (n p v : ℕ) → p < n → ((i : ℕ) → i < n → f i ≡ g i) → may f n p v ≡ may g n p v
+may-same : (f g : ℕ → ℕ) (n p v : ℕ) → p < n → ((i : ℕ) → i < n → f i ≡ g i) → may f n p v ≡ may g n p v
 unfolding may put
 may-same f g n p v l e =
     ap₂ (λ (x : ℕ) (b : Bool). (ltb v none && (not (ltb x none) || eqb x v)) && b) (e p l) (steady-same (put f p v) (put g p v) n (omega arith) alike)
@@ -89,7 +71,7 @@ flat-less f g m t e F =
       equal = sym x ∙ F .equal ∙ y;
     }
 
-pub told-same : (f g : ℕ → ℕ) (m t : ℕ) → t < m → ((i : ℕ) → i < suc m → f i ≡ g i) → told f m t ≡ told g m t
+told-same : (f g : ℕ → ℕ) (m t : ℕ) → t < m → ((i : ℕ) → i < suc m → f i ≡ g i) → told f m t ≡ told g m t
 unfolding told
 told-same f g m t l e =
     let back : (i : ℕ) → i < suc m → g i ≡ f i = λ i h. sym (e i h) in
@@ -98,6 +80,36 @@ told-same f g m t l e =
       agree (same (flat-less f g m t e) (flat-less g f m t back) (level-decides f m t)) (level-decides g m t),
     )
     refl
+
+-- the part of the list that is lent for component c of n
+module _ (l : List ℕ) (m n c at : ℕ) (long : length l ≡ n * suc m) (in-list : c < n) (start : at ≡ c * suc m) where
+  abbrev part : List ℕ
+  part = take (at + (m + 1) - at) (drop at l)
+
+  pub part-long : length part ≡ suc m
+  part-long = simp (length-take, length-drop) (omega (arith, room c n (suc m) in-list))
+
+  part-at : (i : ℕ) → i < suc m → cell part i ≡ run-of l m c i
+  part-at i h =
+      let e : at + (m + 1) - at ≡ suc m = omega arith in
+      let inside : i < at + (m + 1) - at = omega arith in
+      getD-take (at + (m + 1) - at) (drop at l) i 0 inside
+      ∙ getD-drop at l i 0
+      ∙ ap (λ (x : ℕ). getD l (x + i) 0) start
+      ∙ any-default l (c * suc m + i) 0 none (omega (arith, room c n (suc m) in-list))
+
+  -- what is asked of the part is asked of the run
+  pub part-steady : steady (cell part) (length part) ≡ steady (run-of l m c) (suc m)
+  part-steady = ap (steady (cell part)) part-long ∙ steady-same (cell part) (run-of l m c) (suc m) (omega arith) part-at
+
+  pub part-is-steady : Steady (run-of l m c) (suc m) → Steady (cell part) (length part)
+  part-is-steady S = rw part-long (steady-less (cell part) (run-of l m c) (suc m) (part-at 0 (omega arith) ∙ S .first) (λ i h k. part-at i h) S)
+
+  pub part-may : (p v : ℕ) → p < suc m → may (cell part) (length part) p v ≡ may (run-of l m c) (suc m) p v
+  part-may p v h = rw part-long (may-same (cell part) (run-of l m c) (suc m) p v h part-at)
+
+  pub part-told : (t : ℕ) → t < m → told (cell part) m t ≡ told (run-of l m c) m t
+  part-told t h = told-same (cell part) (run-of l m c) m t h part-at
 
 -- soundness in its two parts
 module _ (z : Sizes) (numbers facts : List ℕ) where

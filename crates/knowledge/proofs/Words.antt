@@ -1,13 +1,11 @@
 -- The tests on a minute's two words of facts, as operations on whole words, are the tests on each bit.
 -- Assumes nothing.
-use Prim.Native.Nat.{ℕ, _+_, _^_, _≤_, _<_}
-use native.Mathlib.Omega.{arith}
+use Prim.Native.Nat.{ℕ, _^_, _<_}
 use mathlib.Core.Path.{_≡_, refl, sym, ap, _∙_}
-use mathlib.Core.Bool.{Bool, true, false, not, _&&_, _||_, xor, Bool·beq, true≢false, false≢true, or-true}
+use mathlib.Core.Bool.{Bool, true, false, not, _&&_, _||_, xor, Bool·beq, true≢false, or-true}
 use mathlib.Core.Logic.{_↔_}
 use lib.Bits.{bitAnd, bitOr, bitXor, or-lt, and-lt, xor-lt}
 use lib.Dec.{ltb, eqb}
-use Rattle.mtl.specs.Algebra.{two, all}
 use Rattle.decide.specs.Decide.{Decides}
 use Rattle.decide.specs.Laws.{is-false, agree, same, itself, less, equal, both, none, implies, each, each-same}
 use Rattle.bits.specs.Bits.{bit, bit-or, bits-same}

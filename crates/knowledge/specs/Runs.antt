@@ -1,9 +1,7 @@
 -- Each test on a run decides its claim.
-use Prim.Native.Nat.{ℕ, zero, suc, _+_, _-_, _*_, _≤_, _<_}
+use Prim.Native.Nat.{ℕ, suc, _+_, _-_}
 use native.Mathlib.Omega.{arith}
-use mathlib.Core.Path.{_≡_, refl, sym, _∙_}
-use mathlib.Core.Bool.{Bool, true, not, _&&_, _||_}
-use Rattle.decide.specs.Decide.{Decides, Somewhere}
+use Rattle.decide.specs.Decide.{Decides}
 use Rattle.decide.specs.Laws.{same, less, most, equal, both, implies, each, some}
 use Rattle.policy.specs.declared.Sizes.{Sizes}
 use Rattle.knowledge.specs.Knowledge.{Knowledge, none, number, Sound}

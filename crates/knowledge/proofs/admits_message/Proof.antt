@@ -1,10 +1,9 @@
 -- `knowledge::admits_message` meets its contract: the answer is read from the component's own run and the minute's facts (`Own`).
 -- Assumes nothing.
-use mathlib.Core.Path.{_≡_, sym, ap, subst, _∙_}
-use Prim.Native.Nat.{ℕ, suc, _+_, _*_, _≤_, _<_}
+use mathlib.Core.Path.{sym, ap, subst, _∙_}
+use Prim.Native.Nat.{suc}
 use native.Mathlib.Omega.{arith}
 use denote.Ref.{now}
-use lib.ListN.{length}
 use Rattle.message.specs.declared.Event.{Event}
 use Rattle.message.specs.Fixes.{Fits}
 use Rattle.knowledge.specs.Knowledge.{admits}

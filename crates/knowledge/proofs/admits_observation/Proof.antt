@@ -1,9 +1,8 @@
 -- `knowledge::admits_observation` meets its contract: the facts' test, and then the numbers'.
 -- Assumes nothing.
 use borrow.Author.Tests.{not-true, not-false}
-use mathlib.Core.Path.{_≡_, sym, ap, _∙_}
-use mathlib.Core.Bool.{Bool, _&&_}
-use Prim.Native.Nat.{_+_, _-_, _*_}
+use mathlib.Core.Path.{_∙_}
+use Rattle.decide.specs.Laws.{first}
 use borrow.Author.Needs.{needs}
 use Rattle.knowledge.proofs.admits_observation.Statement.{statement}
 use Rattle.knowledge.proofs.admits_observation.Tie as tie
@@ -31,10 +30,6 @@ shared-slice-read-do-words-agree-2 c = search needs
 
 do-words-agree-requires : tie.Need-do-words-agree-requires
 do-words-agree-requires c κs = search needs
-
--- where the first test answers b
-first : (r b w rest : Bool) → r ≡ w → r ≡ b → (b && rest) ≡ (w && rest)
-first r b w rest e g = ap (λ (x : Bool). x && rest) (sym g ∙ e)
 
 returns : tie.Need-returns
 returns c =

@@ -2,16 +2,14 @@
 -- measure is how many components are left. Assumes nothing.
 use borrow.Author.Tests.{not-true, not-false}
 use mathlib.Core.Path.{_≡_, refl, sym, ap, _∙_}
-use mathlib.Core.Bool.{Bool, true, false}
-use Prim.Native.Nat.{ℕ, suc, _+_, _*_, _-_, _≤_, _<_}
+use mathlib.Core.Bool.{true}
+use Prim.Native.Nat.{ℕ, suc, _*_, _-_, _≤_}
 use native.Mathlib.Omega.{arith}
 use denote.Ref.{now}
-use mathlib.Core.List.{List}
-use lib.ListN.{length, take, drop}
 use Rattle.mtl.specs.Algebra.{two, all}
 use Rattle.decide.specs.Laws.{each-fails, each-more}
-use Rattle.knowledge.specs.Run.{cell, run-of, steady}
-use Rattle.knowledge.proofs.Parts.{part, part-long, part-at, one-run, room, steady-same}
+use Rattle.knowledge.specs.Run.{run-of, steady}
+use Rattle.knowledge.proofs.Parts.{part-long, part-steady, one-run, room}
 use Rattle.knowledge.proofs.are_steady.Statement.{statement}
 use Rattle.knowledge.proofs.are_steady.Tie as tie
 
@@ -63,17 +61,6 @@ is-steady-requires c κs =
     let n = part-long (now (x .numbers)) (x .minutes) (x .components) (l .loop .c) (l .loop .at) (s .pre .1) (omega arith) (l .loop .inv .1) in
     (omega arith, omega arith)
 
--- what the call answers is whether run c is steady
-answer : (numbers : List ℕ) (minutes components c at : ℕ) → length numbers ≡ components * suc minutes → c < components → at ≡ c * suc minutes
-    → (r b : Bool) → r ≡ steady (cell (take (at + (minutes + 1) - at) (drop at numbers))) (length (take (at + (minutes + 1) - at) (drop at numbers)))
-    → r ≡ b → steady (run-of numbers minutes c) (suc minutes) ≡ b
-answer numbers minutes components c at long inside start r b e f =
-    let n = part-long numbers minutes components c at long inside start in
-    sym
-    (steady-same (cell (part numbers minutes components c at long inside start)) (run-of numbers minutes c) (suc minutes) (omega arith) (part-at numbers minutes components c at long inside start))
-    ∙ ap (steady (cell (part numbers minutes components c at long inside start))) (sym n)
-    ∙ sym e ∙ f
-
 returns : tie.Need-returns Inv-loop μ-loop
 returns c =
     let f = c .before .is-steady in
@@ -82,7 +69,7 @@ returns c =
     let x = s .args in
     sym
     (each-fails (x .components) (λ i. steady (run-of (now (x .numbers)) (x .minutes) i) (suc (x .minutes))) (l .loop .c) (omega arith)
-    (answer (now (x .numbers)) (x .minutes) (x .components) (l .loop .c) (l .loop .at) (s .pre .1) (omega arith) (l .loop .inv .1) (f .result) false (f .ensures) (not-true (f .result) (c .if1 .taken))))
+    (sym (part-steady (now (x .numbers)) (x .minutes) (x .components) (l .loop .c) (l .loop .at) (s .pre .1) (omega arith) (l .loop .inv .1)) ∙ sym (f .ensures) ∙ not-true (f .result) (c .if1 .taken)))
 
 add-c : tie.Need-add-c Inv-loop μ-loop
 add-c c = omega arith
@@ -99,7 +86,7 @@ loop-again c =
       omega arith,
       omega (arith, one-run (l .loop .c) (suc (x .minutes))),
       each-more (l .loop .c) (λ i. steady (run-of (now (x .numbers)) (x .minutes) i) (suc (x .minutes))) (l .loop .inv .2)
-          (answer (now (x .numbers)) (x .minutes) (x .components) (l .loop .c) (l .loop .at) (s .pre .1) (omega arith) (l .loop .inv .1) (f .result) true (f .ensures) (not-false (f .result) (c .if1 .left))),
+          (sym (part-steady (now (x .numbers)) (x .minutes) (x .components) (l .loop .c) (l .loop .at) (s .pre .1) (omega arith) (l .loop .inv .1)) ∙ sym (f .ensures) ∙ not-false (f .result) (c .if1 .left)),
     )
 
 returns-2 : tie.Need-returns-2 Inv-loop μ-loop

@@ -1,10 +1,9 @@
 -- `knowledge::fill` meets its contract. The loop's invariant: the cells below i are filled. The measure is what is left.
 -- Assumes nothing.
-use mathlib.Core.Path.{_≡_, refl, subst}
+use mathlib.Core.Path.{refl, subst}
 use Prim.Native.Nat.{ℕ, _-_, _≤_}
 use native.Mathlib.Omega.{arith}
 use denote.Ref.{now}
-use lib.ListN.{length}
 use Rattle.rows.specs.Over.{Over}
 use Rattle.rows.specs.Laws.{untouched, one-more}
 use Rattle.knowledge.proofs.fill.Statement.{statement}

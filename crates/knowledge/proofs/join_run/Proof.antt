@@ -1,7 +1,7 @@
 -- `knowledge::join_run` meets its contract. The loop's invariant: p is known and q is its next known place, and the cells before p are
 -- joined with what is told. The measure is what is left of the run. Assumes nothing.
 use mathlib.Core.Path.{_≡_, sym, ap, subst, _∙_}
-use Prim.Native.Nat.{ℕ, suc, _+_, _-_, _≤_, _<_}
+use Prim.Native.Nat.{ℕ, suc, _+_, _-_, _<_}
 use native.Mathlib.Omega.{arith}
 use denote.Ref.{now}
 use lib.ListN.{length}
@@ -9,7 +9,7 @@ use Rattle.kleene.specs.Truth.{codeOf, read-back}
 use Rattle.rows.specs.Over.{Over}
 use Rattle.rows.specs.Laws.{untouched}
 use Rattle.knowledge.specs.Knowledge.{none}
-use Rattle.knowledge.specs.Run.{cell, Steady, Next, told}
+use Rattle.knowledge.specs.Run.{cell, Next, told}
 use Rattle.knowledge.proofs.Gap.{in-gap, after-last}
 use Rattle.knowledge.proofs.Points.{joined, stretch}
 use Rattle.knowledge.proofs.join_run.Statement.{statement}

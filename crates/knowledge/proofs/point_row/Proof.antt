@@ -1,17 +1,14 @@
 -- `knowledge::point_row` meets its contract. The loop's invariant: the row holds what the first c components tell, and the next run starts
 -- at `at`. The measure is how many components are left. Assumes nothing.
-use borrow.Author.Needs.{needs}
-use mathlib.Core.Path.{_≡_, refl, sym, ap, subst, _∙_}
-use Prim.Native.Nat.{ℕ, suc, _+_, _*_, _-_, _≤_, _<_}
+use mathlib.Core.Path.{_≡_, sym, ap, _∙_}
+use Prim.Native.Nat.{ℕ, suc, _*_, _-_, _≤_, _<_}
 use native.Mathlib.Omega.{arith}
 use mathlib.Core.List.{List}
 use denote.Ref.{now}
-use lib.ListN.{length, getD, replicate, length-replicate}
+use lib.ListN.{length, getD, length-replicate}
 use Rattle.kleene.specs.Truth.{codeOf}
 use Rattle.rows.specs.Laws.{zeros}
-use Rattle.knowledge.specs.Run.{cell, run-of, Steady, told}
-use Rattle.knowledge.proofs.Putting.{steady-less}
-use Rattle.knowledge.proofs.Parts.{part, part-long, part-at, one-run, room, told-same}
+use Rattle.knowledge.proofs.Parts.{part-long, part-is-steady, part-told, one-run, room}
 use Rattle.knowledge.proofs.Points.{points, all-points, one-more-run}
 use Rattle.knowledge.proofs.point_row.Statement.{statement}
 use Rattle.knowledge.proofs.point_row.Tie as tie
@@ -81,12 +78,10 @@ join-run-requires c κs =
     let z = s .args .sizes in
     let numbers = now (s .args .numbers) in
     let i : l .loop .c < z .components = omega arith in
-    let n = part-long numbers (z .minutes) (z .components) (l .loop .c) (l .loop .at) (s .pre .1) i (l .loop .inv .1) in
-    let at = part-at numbers (z .minutes) (z .components) (l .loop .c) (l .loop .at) (s .pre .1) i (l .loop .inv .1) in
-    let S = s .pre .2 (l .loop .c) i in (
+    let n = part-long numbers (z .minutes) (z .components) (l .loop .c) (l .loop .at) (s .pre .1) i (l .loop .inv .1) in (
       omega arith,
       omega arith,
-      rw n (steady-less _ (run-of numbers (z .minutes) (l .loop .c)) (suc (z .minutes)) (at 0 (omega arith) ∙ S .first) (λ i h k. at i h) S),
+      part-is-steady numbers (z .minutes) (z .components) (l .loop .c) (l .loop .at) (s .pre .1) i (l .loop .inv .1) (s .pre .2 (l .loop .c) i),
       l .loop .inv .2,
     )
 
@@ -104,12 +99,11 @@ loop-again c =
     let numbers = now (s .args .numbers) in
     let i : l .loop .c < z .components = omega arith in
     let n = part-long numbers (z .minutes) (z .components) (l .loop .c) (l .loop .at) (s .pre .1) i (l .loop .inv .1) in
-    let at = part-at numbers (z .minutes) (z .components) (l .loop .c) (l .loop .at) (s .pre .1) i (l .loop .inv .1) in
     let over = c .join-run .ensures (z .minutes) (sym n) in (
       omega arith,
       omega (arith, one-run (l .loop .c) (suc (z .minutes))),
       over .long ∙ l .loop .inv .2,
-      one-more-run numbers _ (z .minutes) (l .loop .c) (l .loop .row) _ over (l .loop .inv .3) (λ t h. told-same _ (run-of numbers (z .minutes) (l .loop .c)) (z .minutes) t h at),
+      one-more-run numbers _ (z .minutes) (l .loop .c) (l .loop .row) _ over (l .loop .inv .3) (part-told numbers (z .minutes) (z .components) (l .loop .c) (l .loop .at) (s .pre .1) i (l .loop .inv .1)),
       λ t h. over .above t h ∙ l .loop .inv .4 t h,
     )
 

@@ -1,12 +1,11 @@
 -- `knowledge::previous_known` meets its contract. The loop's invariant: no place between i and `place` is known. The measure is i.
 -- Assumes nothing.
-use mathlib.Core.Path.{_≡_, sym, subst}
+use mathlib.Core.Path.{_≡_, subst}
 use mathlib.Core.Logic.{⊎-elim}
 use Prim.Native.Nat.{ℕ, _-_, _≤_, _<_}
 use native.Mathlib.Nat.{eq-or-lt-of-le}
 use native.Mathlib.Omega.{arith}
 use denote.Ref.{now}
-use lib.ListN.{length}
 use Rattle.knowledge.specs.Knowledge.{none}
 use Rattle.knowledge.specs.Run.{cell}
 use Rattle.knowledge.proofs.previous_known.Statement.{statement}
