@@ -1,0 +1,2 @@
+-- What the printing program holds.
+pub mod Arrays
