@@ -1,14 +1,12 @@
 -- The demands, proved: each is one inhabitant of its type in Demands.
-use Prim.Native.Nat.{ℕ, _≤_, _<_}
+use Prim.Native.Nat.{ℕ, _<_}
 use native.Mathlib.Omega.{arith}
 use mathlib.Core.Path.{_≡_, refl, sym, ap, _∙_}
-use mathlib.Core.Bool.{Bool, true, false, cond, true≢false}
+use mathlib.Core.Bool.{Bool, true, false}
 use mathlib.Core.Logic.{_⊎_, inl, inr, _↔_, _≢_}
-use mathlib.Core.List.{List, [], _∷_, _++_, map, List·Memᴰ}
+use mathlib.Core.List.{List, _++_, map, List·Memᴰ}
 use Rattle.mtl.specs.Folds.{both}
-use Rattle.refusal.specs.declared.Refusal.{Refusal}
-use Rattle.refusal.specs.declared.Refusal.the-variants.{BufferSize, CorruptKnowledge, Conflict}
-use Rattle.policy.specs.declared.Policy.{Policy}
+use Rattle.refusal.specs.declared.Refusal.the-variants.{BufferSize, CorruptKnowledge}
 use Rattle.policy.specs.declared.Answer.{Answer as Checked}
 use Rattle.policy.specs.declared.Answer.the-variants as C
 use Rattle.policy.specs.Format.{answerOf as policy-answer, policyOf}
@@ -18,19 +16,17 @@ use Rattle.message.specs.Format.{answerOf as message-answer}
 use Rattle.message.specs.Fixes.{Message, Fixes-number, Fixes-fact, Fits, Well-formed, meaningOf}
 use Rattle.message.specs.Laws.{fits, causes as message-causes}
 use Rattle.knowledge.specs.Trace.{Trace, Admits, Admits-all}
-use Rattle.knowledge.specs.Knowledge.{Sized as Long}
-use Rattle.knowledge.specs.Knowledge.{Knowledge, noted, valued, number, Sound, sound, stored, free, admits}
+use Rattle.knowledge.specs.Knowledge.{Sized as Long, Knowledge, noted, valued, number, sound, stored, free, admits}
 use Rattle.knowledge.specs.Laws.{Limits, Free, free-law}
 use Rattle.knowledge.specs.Store.{Fact, number-hit, number-either, fact-hit, fact-cases}
-use Rattle.knowledge.specs.Conflict.{admits-law}
 use Rattle.valuation.specs.Sheets.{valuation-of, verdicts-of, standing}
 use Rattle.monitor.specs.declared.Answer.{Answer}
 use Rattle.monitor.specs.declared.Answer.the-variants.{Done, Received, Refused}
-use Rattle.monitor.specs.State.{State, Outcome, Sized, sized, opened, settle, take-message, guard, afterwards, open-state, receive, Receive, run, after, Taken, accepted-from, accepted}
-use Rattle.monitor.specs.Demands.{sizesOf, shown, Plain, Some-trace, Sheets, Passed, Demand-1, Gains, Demand-2, Sends, Same, Demand-3}
+use Rattle.monitor.specs.State.{State, Outcome, sized, opened, settle, guard, afterwards, open-state, receive, Receive, run, after, Taken, accepted-from, accepted}
+use Rattle.monitor.specs.Demands.{sizesOf, shown, Plain, Passed, Demand-1, Gains, Demand-2, Sends, Same, Demand-3}
 use Rattle.monitor.specs.Invariant.{Kept-up, long-of}
 use Rattle.monitor.specs.Keeping.{sheets-over, is-over, same-state}
-use Rattle.monitor.specs.Runs.{plain-take, accept-law, from-open, start, stand, truth, all-up, all-taken}
+use Rattle.monitor.specs.Runs.{accept-law, from-open, start, stand, truth, all-up, all-taken}
 use Rattle.monitor.specs.Causes.{opening-causes, take-causes}
 
 -- ---- what an accepted card gives

@@ -5,7 +5,6 @@ use mathlib.Core.Path.{_≡_, sym, ap, _∙_}
 use mathlib.Core.List.{List, [], _∷_, map}
 use Rattle.bits.specs.Digits.{digit, below, expanded}
 use Rattle.bits.specs.Bits.{bit}
-use Rattle.refusal.specs.declared.Refusal.{Refusal}
 use Rattle.refusal.specs.declared.Refusal.the-variants.{BadMessage, Conflict}
 use Rattle.mtl.specs.Reading.{since, until, deep, reading}
 use Rattle.policy.specs.Format.{lineLength, fieldsAt, allowed, operandsGood, goodLine, meaning, formulaOf, subformulaOf, subformulaAt, headingAnswer, offset, lineAnswer, linesAnswer, linesUpTo, subformulasOf, ruleLines, rulesUpTo, closingAnswer, answerOf as policy-answer, policyOf}

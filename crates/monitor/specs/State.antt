@@ -1,13 +1,12 @@
 -- The state, and what an opening and a take do, as functions of the bytes and the state. The contracts and the demands speak of these.
-use Prim.Native.Nat.{ℕ, zero, suc, _+_, _*_}
+use Prim.Native.Nat.{ℕ, suc, _+_, _*_}
 use mathlib.Core.Path.{_≡_}
 use mathlib.Core.Bool.{Bool, true, false, cond, _&&_}
 use mathlib.Core.List.{List, [], _∷_, _++_, map}
 use lib.Dec.{eqb}
-use lib.ListN.{getD, length, replicate}
+use lib.ListN.{length, replicate}
 use Rattle.refusal.specs.declared.Refusal.{Refusal}
 use Rattle.refusal.specs.declared.Refusal.the-variants.{BufferSize, CorruptKnowledge, Conflict}
-use Rattle.policy.specs.declared.Sizes.{Sizes}
 use Rattle.policy.specs.declared.Policy.{Policy}
 use Rattle.policy.specs.declared.Answer.{Answer as Checked}
 use Rattle.policy.specs.declared.Answer.the-variants as C
