@@ -6,25 +6,10 @@ use libc::STDOUT_FILENO;
 use monitor::Answer;
 use refusal::Refusal;
 ghost use Prim.Native.Nat.{_≤_, _<_};
+ghost use lib.ListN.{length};
 
 // K: proposition 0 at some time in the last 2 minutes.
 const K: [u8; 13] = *b"\x01\x01\x04\x00\x03\x00\x01\x01\x35\x04\x01\x02\x00";
-
-// K with its last line proposition 0 within the next minute.
-const NEXT: [u8; 13] = *b"\x01\x01\x04\x00\x03\x00\x01\x01\x35\x05\x01\x01\x00";
-
-// Proposition 0 in the last 3 minutes and no time point since: only a minute that is no time point lets it stand.
-const LAST: [u8; 16] = *b"\x01\x01\x04\x00\x04\x00\x01\x02\x01\x01\x37\x04\x01\x02\x03\x00";
-
-// The messages of the small shift.
-const A: [u8; 8] = *b"\x0c\x01\x00\x01\x00\x00\x00\x00";
-
-const B: [u8; 10] = *b"\x0e\x02\x00\x02\x00\x01\x00\x00\x00\x01";
-
-const D: [u8; 5] = *b"\x06\x03\x00\x03\x00";
-
-// Alive at minute 4, past the last, with two observations: minute 3 had none.
-const END: [u8; 5] = *b"\x16\x04\x00\x02\x00";
 
 // How many elements of each array are lent.
 struct Parts {
@@ -115,98 +100,63 @@ fn show_receive(
     print_state(&before[0..n], numbers, facts, valuation, verdicts);
 }
 
-// Receives a message of a case, where the case has so many.
-fn show_receive_if(
-    is_there: bool,
-    policy: &[u8],
-    message: &[u8],
-    numbers: &mut [u16],
-    facts: &mut [u32],
-    valuation: &mut [u8],
-    verdicts: &mut [u8],
-) {
-    if is_there {
-        show_receive(policy, message, numbers, facts, valuation, verdicts);
+// Where the message ends whose length byte stands at a place.
+fn message_end(messages: &[u8], at: usize) -> usize
+    requires { ⌜ at < length (now messages) ⌝ }
+    ensures { λ r. ⌜ (at < r) × (r ≤ length (now (messages .entry))) ⌝ }
+{
+    let left = messages.len() - at - 1;
+    let bytes = wide(messages[at]);
+    if left < bytes {
+        return messages.len();
     }
+    at + 1 + bytes
 }
 
-// Receives the first count of three messages.
+fn wide(byte: u8) -> usize {
+    byte as usize
+}
+
+// Receives the messages, each after one length byte.
 fn show_messages(
     policy: &[u8],
-    count: usize,
-    first: &[u8],
-    second: &[u8],
-    third: &[u8],
+    messages: &[u8],
     numbers: &mut [u16],
     facts: &mut [u32],
     valuation: &mut [u8],
     verdicts: &mut [u8],
 ) {
-    show_receive_if(
-        0 < count,
-        policy,
-        first,
-        numbers,
-        facts,
-        valuation,
-        verdicts,
-    );
-    show_receive_if(
-        1 < count,
-        policy,
-        second,
-        numbers,
-        facts,
-        valuation,
-        verdicts,
-    );
-    show_receive_if(
-        2 < count,
-        policy,
-        third,
-        numbers,
-        facts,
-        valuation,
-        verdicts,
-    );
+    let mut at = 0;
+    while at < messages.len() {
+        let from = at + 1;
+        let to = message_end(messages, at);
+        show_receive(
+            policy,
+            &messages[from..to],
+            numbers,
+            facts,
+            valuation,
+            verdicts,
+        );
+        at = to;
+    }
 }
 
 // Opens, and receives the messages.
 fn play(
     policy: &[u8],
-    count: usize,
-    first: &[u8],
-    second: &[u8],
-    third: &[u8],
+    messages: &[u8],
     numbers: &mut [u16],
     facts: &mut [u32],
     valuation: &mut [u8],
     verdicts: &mut [u8],
 ) {
     show_open(policy, numbers, facts, valuation, verdicts);
-    show_messages(
-        policy,
-        count,
-        first,
-        second,
-        third,
-        numbers,
-        facts,
-        valuation,
-        verdicts,
-    );
+    show_messages(policy, messages, numbers, facts, valuation, verdicts);
 }
 
 // A case over parts of arrays that hold 9 everywhere: what they held before an opening doesn't matter.
-fn run_over(
-    parts: Parts,
-    title: &[u8],
-    policy: &[u8],
-    count: usize,
-    first: &[u8],
-    second: &[u8],
-    third: &[u8],
-)
+fn run(title: &[u8], parts: Parts, policy: &[u8], messages: &[u8])
     requires { ⌜ (parts .numbers ≤ 8) × (parts .facts ≤ 16) × (parts .valuation ≤ 16) × (parts .verdicts ≤ 8) ⌝ }
 {
     let mut numbers = [9u16; 8];
@@ -220,10 +170,7 @@ fn run_over(
     print(title);
     play(
         policy,
-        count,
-        first,
-        second,
-        third,
+        messages,
         &mut numbers[0..n],
         &mut facts[0..f],
         &mut valuation[0..v],
@@ -231,200 +178,176 @@ fn run_over(
     );
 }
 
-// A case over parts of the sizes that K has.
-fn run(title: &[u8], policy: &[u8], count: usize, first: &[u8], second: &[u8], third: &[u8]) {
-    let parts = Parts {
+// The parts that a policy of one component, four minutes and one rule needs, by its lines.
+fn parts_of(lines: usize) -> Parts
+    requires { ⌜ lines ≤ 4 ⌝ }
+    ensures { λ r. ⌜ (r .numbers ≤ 8) × (r .facts ≤ 16) × (r .valuation ≤ 16) × (r .verdicts ≤ 8) ⌝ }
+{
+    Parts {
         numbers: 5,
         facts: 8,
-        valuation: 12,
+        valuation: lines * 4,
         verdicts: 4,
-    };
-    run_over(parts, title, policy, count, first, second, third);
+    }
 }
 
-// Accepted messages, in every order.
-fn verdicts_of_the_small_shift() {
-    run(b"no message\n", &K, 0, b"", b"", b"");
-    run(b"A\n", &K, 1, &A, b"", b"");
-    run(b"B\n", &K, 1, &B, b"", b"");
-    run(b"A B\n", &K, 2, &A, &B, b"");
-    run(b"B A\n", &K, 2, &B, &A, b"");
-    run(b"A B D\n", &K, 3, &A, &B, &D);
-    run(b"D\n", &K, 1, &D, b"", b"");
+// A case of K.
+fn small(title: &[u8], messages: &[u8]) {
+    run(title, parts_of(3), &K, messages);
+}
+
+// A case of K over other parts, with the message A.
+fn sized(title: &[u8], parts: Parts)
+    requires { ⌜ (parts .numbers ≤ 8) × (parts .facts ≤ 16) × (parts .valuation ≤ 16) × (parts .verdicts ≤ 8) ⌝ }
+{
+    run(title, parts, &K, b"\x08\x0c\x01\x00\x01\x00\x00\x00\x00");
+}
+
+// A policy that is refused, with the message A.
+fn refused(title: &[u8], policy: &[u8]) {
     run(
-        b"an alive message that changes nothing\n",
-        &K,
-        1,
-        b"\x10",
-        b"",
-        b"",
+        title,
+        parts_of(3),
+        policy,
+        b"\x08\x0c\x01\x00\x01\x00\x00\x00\x00",
     );
 }
 
-// Messages that are turned away: 7, 8 and 9.
-fn refused_messages() {
-    run(b"no count\n", &K, 1, b"\x00", b"", b"");
-    run(b"no bytes\n", &K, 1, b"", b"", b"");
-    run(
-        b"cut by a byte\n",
-        &K,
-        1,
-        b"\x0c\x01\x00\x01\x00\x00\x00",
-        b"",
-        b"",
+// Messages in one order and in another.
+fn received() {
+    small(b"no message\n", b"");
+    small(b"A\n", b"\x08\x0c\x01\x00\x01\x00\x00\x00\x00");
+    small(b"B\n", b"\x0a\x0e\x02\x00\x02\x00\x01\x00\x00\x00\x01");
+    small(
+        b"A B\n",
+        b"\x08\x0c\x01\x00\x01\x00\x00\x00\x00\x0a\x0e\x02\x00\x02\x00\x01\x00\x00\x00\x01",
     );
-    run(
+    small(
+        b"B A\n",
+        b"\x0a\x0e\x02\x00\x02\x00\x01\x00\x00\x00\x01\x08\x0c\x01\x00\x01\x00\x00\x00\x00",
+    );
+}
+
+fn received_with_d() {
+    small(
+        b"A B D\n",
+        b"\x08\x0c\x01\x00\x01\x00\x00\x00\x00\x0a\x0e\x02\x00\x02\x00\x01\x00\x00\x00\x01\x05\x06\x03\x00\x03\x00",
+    );
+    small(b"D\n", b"\x05\x06\x03\x00\x03\x00");
+    small(b"an alive message that changes nothing\n", b"\x01\x10");
+}
+
+// Messages that are cut or bad: 7 and 8.
+fn bad_messages() {
+    small(b"no count\n", b"\x01\x00");
+    small(b"no bytes\n", b"\x00");
+    small(b"cut by a byte\n", b"\x07\x0c\x01\x00\x01\x00\x00\x00");
+    small(
         b"a byte more\n",
-        &K,
-        1,
-        b"\x0c\x01\x00\x01\x00\x00\x00\x00\x00",
-        b"",
-        b"",
-    );
-    run(
-        b"more observations than minutes\n",
-        &K,
-        1,
-        b"\x04\x02\x00",
-        b"",
-        b"",
-    );
-    run(
-        b"A, and then none by minute 0\n",
-        &K,
-        2,
-        &A,
-        b"\x12\x01\x00",
-        b"",
-    );
-    run(
-        b"A, and then A with another value\n",
-        &K,
-        2,
-        &A,
-        b"\x0c\x01\x00\x01\x00\x00\x00\x01",
-        b"",
-    );
-    run(
-        b"A, B, alive at minute 5\n",
-        &K,
-        3,
-        &A,
-        &B,
-        b"\x16\x05\x00\x02\x00",
-    );
-    run(
-        b"A, B, an observation at minute 4\n",
-        &K,
-        3,
-        &A,
-        &B,
-        b"\x06\x04\x00\x03\x00",
+        b"\x09\x0c\x01\x00\x01\x00\x00\x00\x00\x00",
     );
 }
 
-// A minute that is no time point, and minutes past the last.
-fn the_end_of_the_shift() {
-    run(b"A, B, alive at minute 4\n", &K, 3, &A, &B, &END);
-    let parts = Parts {
-        numbers: 5,
-        facts: 8,
-        valuation: 16,
-        verdicts: 4,
-    };
-    run_over(
-        parts,
-        b"A, B, alive at minute 4: no time point after B\n",
-        &LAST,
-        3,
-        &A,
-        &B,
-        &END,
+// Messages that no trace could have sent: 9.
+fn conflicts() {
+    small(b"more observations than minutes\n", b"\x03\x04\x02\x00");
+    small(
+        b"A, and then none by minute 0\n",
+        b"\x08\x0c\x01\x00\x01\x00\x00\x00\x00\x03\x12\x01\x00",
     );
-    run_over(
-        parts,
-        b"A, B, D: a time point after B\n",
-        &LAST,
-        3,
-        &A,
-        &B,
-        &D,
+    small(
+        b"A, and then A with another value\n",
+        b"\x08\x0c\x01\x00\x01\x00\x00\x00\x00\x08\x0c\x01\x00\x01\x00\x00\x00\x01",
+    );
+}
+
+// The last minute is 3: an alive message may say so, and nothing may come after.
+fn past_the_last_minute() {
+    small(
+        b"A, B, alive at minute 4\n",
+        b"\x08\x0c\x01\x00\x01\x00\x00\x00\x00\x0a\x0e\x02\x00\x02\x00\x01\x00\x00\x00\x01\x05\x16\x04\x00\x02\x00",
+    );
+    small(
+        b"A, B, alive at minute 5\n",
+        b"\x08\x0c\x01\x00\x01\x00\x00\x00\x00\x0a\x0e\x02\x00\x02\x00\x01\x00\x00\x00\x01\x05\x16\x05\x00\x02\x00",
+    );
+    small(
+        b"A, B, an observation at minute 4\n",
+        b"\x08\x0c\x01\x00\x01\x00\x00\x00\x00\x0a\x0e\x02\x00\x02\x00\x01\x00\x00\x00\x01\x05\x06\x04\x00\x03\x00",
+    );
+}
+
+// A policy that shows a minute which is no time point: proposition 0 in the last 3 minutes, and no time point since.
+fn no_time_point() {
+    let policy = b"\x01\x01\x04\x00\x04\x00\x01\x02\x01\x01\x37\x04\x01\x02\x03\x00";
+    run(
+        b"none since: A, B, alive at minute 4\n",
+        parts_of(4),
+        policy,
+        b"\x08\x0c\x01\x00\x01\x00\x00\x00\x00\x0a\x0e\x02\x00\x02\x00\x01\x00\x00\x00\x01\x05\x16\x04\x00\x02\x00",
     );
     run(
-        b"false at minute 3\n",
-        &NEXT,
-        1,
-        b"\x0e\x03\x00\x01\x00\x01\x00\x00\x00\x00",
-        b"",
-        b"",
+        b"none since: A, B, D\n",
+        parts_of(4),
+        policy,
+        b"\x08\x0c\x01\x00\x01\x00\x00\x00\x00\x0a\x0e\x02\x00\x02\x00\x01\x00\x00\x00\x01\x05\x06\x03\x00\x03\x00",
+    );
+}
+
+// K with its last line proposition 0 within the next minute.
+fn next_minute() {
+    let policy = b"\x01\x01\x04\x00\x03\x00\x01\x01\x35\x05\x01\x01\x00";
+    run(
+        b"next minute: false at minute 3\n",
+        parts_of(3),
+        policy,
+        b"\x0a\x0e\x03\x00\x01\x00\x01\x00\x00\x00\x00",
     );
     run(
-        b"false at minute 2, alive at minute 4\n",
-        &NEXT,
-        2,
-        b"\x0e\x02\x00\x01\x00\x01\x00\x00\x00\x00",
-        b"\x16\x04\x00\x01\x00",
-        b"",
+        b"next minute: false at minute 2, alive at minute 4\n",
+        parts_of(3),
+        policy,
+        b"\x0a\x0e\x02\x00\x01\x00\x01\x00\x00\x00\x00\x05\x16\x04\x00\x01\x00",
     );
 }
 
 // Buffers of another size: 5.
 fn wrong_sizes() {
-    run_over(
+    sized(
+        b"a number more\n",
         Parts {
             numbers: 6,
             facts: 8,
             valuation: 12,
             verdicts: 4,
         },
-        b"a number more\n",
-        &K,
-        1,
-        &A,
-        b"",
-        b"",
     );
-    run_over(
+    sized(
+        b"a fact less\n",
         Parts {
             numbers: 5,
             facts: 7,
             valuation: 12,
             verdicts: 4,
         },
-        b"a fact less\n",
-        &K,
-        1,
-        &A,
-        b"",
-        b"",
     );
-    run_over(
+    sized(
+        b"no valuation\n",
         Parts {
             numbers: 5,
             facts: 8,
             valuation: 0,
             verdicts: 4,
         },
-        b"no valuation\n",
-        &K,
-        1,
-        &A,
-        b"",
-        b"",
     );
-    run_over(
+    sized(
+        b"a verdict more\n",
         Parts {
             numbers: 5,
             facts: 8,
             valuation: 12,
             verdicts: 5,
         },
-        b"a verdict more\n",
-        &K,
-        1,
-        &A,
-        b"",
-        b"",
     );
 }
 
@@ -461,89 +384,67 @@ fn overwritten_states() {
     run_overwritten(b"sheets that hold anything\n", 2, 1, 2, 1);
 }
 
-// Policies that are turned away: 1 to 4.
-fn refused_policies() {
-    run(b"an empty policy\n", b"", 1, &A, b"", b"");
-    run(
+// Policies that are cut, or followed by more: 1.
+fn cut_policies() {
+    refused(b"an empty policy\n", b"");
+    refused(
         b"K cut by a byte\n",
         b"\x01\x01\x04\x00\x03\x00\x01\x01\x35\x04\x01\x02",
-        1,
-        &A,
-        b"",
-        b"",
     );
-    run(
+    refused(
         b"K and a byte more\n",
         b"\x01\x01\x04\x00\x03\x00\x01\x01\x35\x04\x01\x02\x00\x00",
-        1,
-        &A,
-        b"",
-        b"",
     );
-    run(
+}
+
+// Policies with a bad heading: 2.
+fn bad_headings() {
+    refused(
         b"no propositions\n",
         b"\x00\x01\x04\x00\x03\x00\x01\x01\x35\x04\x01\x02\x00",
-        0,
-        b"",
-        b"",
-        b"",
     );
-    run(
+    refused(
         b"17 components\n",
         b"\x01\x11\x04\x00\x03\x00\x01\x01\x35\x04\x01\x02\x00",
-        0,
-        b"",
-        b"",
-        b"",
     );
-    run(
+    refused(
         b"1025 minutes\n",
         b"\x01\x01\x01\x04\x03\x00\x01\x01\x35\x04\x01\x02\x00",
-        0,
-        b"",
-        b"",
-        b"",
     );
-    run(b"no lines\n", b"\x01\x01\x04\x00\x00", 0, b"", b"", b"");
-    run(
+    refused(b"no lines\n", b"\x01\x01\x04\x00\x00");
+}
+
+// Policies with a bad line, and with no rule or too many: 3 and 4.
+fn bad_lines() {
+    refused(
         b"a field that is written as 0\n",
         b"\x01\x01\x04\x00\x03\x01\x00\x01\x01\x35\x04\x01\x02\x00",
-        1,
-        &A,
-        b"",
-        b"",
     );
-    run(
+    refused(
         b"an operand that is no earlier line\n",
         b"\x01\x01\x04\x00\x03\x00\x01\x01\x35\x04\x02\x02\x00",
-        1,
-        &A,
-        b"",
-        b"",
     );
-    run(
+    refused(
         b"no rule\n",
         b"\x01\x01\x04\x00\x03\x00\x01\x01\x15\x04\x01\x02\x00",
-        1,
-        &A,
-        b"",
-        b"",
     );
-    run(
+    refused(
         b"nine rules\n",
         b"\x01\x01\x04\x00\x09\x20\x20\x20\x20\x20\x20\x20\x20\x20",
-        1,
-        &A,
-        b"",
-        b"",
     );
 }
 
 fn main() {
-    verdicts_of_the_small_shift();
-    refused_messages();
-    the_end_of_the_shift();
+    received();
+    received_with_d();
+    bad_messages();
+    conflicts();
+    past_the_last_minute();
+    no_time_point();
+    next_minute();
     wrong_sizes();
     overwritten_states();
-    refused_policies();
+    cut_policies();
+    bad_headings();
+    bad_lines();
 }

@@ -1,0 +1,79 @@
+-- `show_messages` is safe and ends: each message ends after it begins and within the bytes, and the buffers keep their lengths. The measure
+-- is the bytes that are left. Assumes nothing.
+use Prim.Native.Nat.{_-_, _≤_}
+use mathlib.Core.Path.{_≡_}
+use borrow.Author.Needs.{needs}
+use lib.ListN.{length}
+use Rattle.monitor_vectors.proofs.show_messages.Statement.{statement}
+use Rattle.monitor_vectors.proofs.show_messages.Tie as tie
+
+abbrev Inv-loop : tie.InvT-loop
+Inv-loop policy messages numbers₀ facts₀ valuation₀ verdicts₀ at₀ numbers facts valuation verdicts at =
+    (at ≤ length messages) × (length numbers ≡ length numbers₀) × (length facts ≡ length facts₀) × (length valuation ≡ length valuation₀) × (length verdicts ≡ length verdicts₀)
+
+abbrev μ-loop : tie.MeasureT-loop
+μ-loop policy messages numbers₀ facts₀ valuation₀ verdicts₀ at₀ numbers facts valuation verdicts at =
+    length messages - at
+
+loop-holds : tie.Need-loop-holds Inv-loop μ-loop
+loop-holds c = search needs
+
+add-from : tie.Need-add-from Inv-loop μ-loop
+add-from c = search needs
+
+message-end-requires : tie.Need-message-end-requires Inv-loop μ-loop
+message-end-requires c κs = search needs
+
+sub-show-receive : tie.Need-sub-show-receive Inv-loop μ-loop
+sub-show-receive c = search needs
+
+part-show-receive-start : tie.Need-part-show-receive-start Inv-loop μ-loop
+part-show-receive-start c = search needs
+
+part-show-receive-end : tie.Need-part-show-receive-end Inv-loop μ-loop
+part-show-receive-end c = search needs
+
+show-receive-requires : tie.Need-show-receive-requires Inv-loop μ-loop
+show-receive-requires c κs = search needs
+
+loop-less : tie.Need-loop-less Inv-loop μ-loop
+loop-less c = search needs
+
+loop-again : tie.Need-loop-again Inv-loop μ-loop
+loop-again c = search needs
+
+same-length : tie.Need-same-length Inv-loop μ-loop
+same-length c = search needs
+
+same-length-2 : tie.Need-same-length-2 Inv-loop μ-loop
+same-length-2 c = search needs
+
+same-length-3 : tie.Need-same-length-3 Inv-loop μ-loop
+same-length-3 c = search needs
+
+same-length-4 : tie.Need-same-length-4 Inv-loop μ-loop
+same-length-4 c = search needs
+
+returns : tie.Need-returns Inv-loop μ-loop
+returns c = search needs
+
+pub show-messages-spec : {M : Type 1} → statement M
+show-messages-spec =
+    tie.close
+    (tie.spec
+    Inv-loop
+    μ-loop
+    loop-holds
+    add-from
+    message-end-requires
+    sub-show-receive
+    part-show-receive-start
+    part-show-receive-end
+    show-receive-requires
+    loop-less
+    loop-again
+    same-length
+    same-length-2
+    same-length-3
+    same-length-4
+    returns)
