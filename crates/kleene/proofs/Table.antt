@@ -30,18 +30,26 @@ every-at (suc n) f t k h =
     (λ (l : k < n). every-at n f (left (every n f) (f n) t) k l)
     (eq-or-lt-of-le (le-of-suc-le-suc h))
 
--- the test of the table of or, at every pair of codes
+-- the test of a table of f, at every pair of codes
+abbrev pub pair-right : (ℕ → ℕ → ℕ) → List (List ℕ) → Bool
+pair-right f table = every 3 (λ i. every 3 (λ j. eqb (getD (getD table i []) j 0) (f i j)))
+
+pub pair-rule : (f : ℕ → ℕ → ℕ) (table : List (List ℕ)) → T (pair-right f table) → (i j : ℕ) → i < 3 → j < 3
+    → getD (getD table i []) j 0 ≡ f i j
+pair-rule f table t i j h l =
+    eqb→eq (getD (getD table i []) j 0) (f i j)
+    (every-at 3 (λ b. eqb (getD (getD table i []) b 0) (f i b))
+    (every-at 3 (λ a. every 3 (λ b. eqb (getD (getD table a []) b 0) (f a b))) t i h)
+    j
+    l)
+
+-- the test of the table of or
 abbrev pub or-right : List (List ℕ) → Bool
-or-right table = every 3 (λ i. every 3 (λ j. eqb (getD (getD table i []) j 0) (codeOf (or3 (valueOf i) (valueOf j)))))
+or-right = pair-right (λ i j. codeOf (or3 (valueOf i) (valueOf j)))
 
 pub or-rule : (table : List (List ℕ)) → T (or-right table) → (i j : ℕ) → i < 3 → j < 3
     → getD (getD table i []) j 0 ≡ codeOf (or3 (valueOf i) (valueOf j))
-or-rule table t i j h l =
-    eqb→eq (getD (getD table i []) j 0) (codeOf (or3 (valueOf i) (valueOf j)))
-    (every-at 3 (λ b. eqb (getD (getD table i []) b 0) (codeOf (or3 (valueOf i) (valueOf b))))
-    (every-at 3 (λ a. every 3 (λ b. eqb (getD (getD table a []) b 0) (codeOf (or3 (valueOf a) (valueOf b))))) t i h)
-    j
-    l)
+or-rule = pair-rule (λ i j. codeOf (or3 (valueOf i) (valueOf j)))
 
 -- the test of the table of not
 abbrev pub not-right : List ℕ → Bool

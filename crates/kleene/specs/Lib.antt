@@ -1,2 +1,3 @@
 -- Kleene's three truth values.
 pub mod Truth
+pub mod Rank

@@ -2,11 +2,17 @@
 ghost use mathlib.Core.Path.{_≡_};
 ghost use Prim.Native.Nat.{_<_};
 ghost use Rattle.kleene.specs.Truth.{codeOf, valueOf, not3, or3, and3, implies3};
+ghost use Rattle.kleene.specs.Rank.{rankOf};
 
 // What the two codes' or is: the row is the first code, the column the second.
 const OR: [[u8; 3]; 3] = [[0, 1, 0], [1, 1, 1], [0, 1, 2]];
 
 const NOT: [u8; 3] = [0, 2, 1];
+
+// The place, in the order false < unknown < true, of `x and y`, and of `x and not y`: row x, column y.
+const BOTH: [[u8; 3]; 3] = [[1, 1, 0], [1, 2, 0], [0, 0, 0]];
+
+const APART: [[u8; 3]; 3] = [[1, 0, 1], [1, 0, 2], [0, 0, 0]];
 
 // A code as an index of the tables.
 fn index(x: u8) -> usize
@@ -39,4 +45,18 @@ pub fn implies(x: u8, y: u8) -> u8
     ensures { λ r. ⌜ r ≡ codeOf (implies3 (valueOf x) (valueOf y)) ⌝ }
 {
     or(not(x), y)
+}
+
+// The rank of `x and y`.
+pub fn both(x: u8, y: u8) -> u8
+    ensures { λ r. ⌜ r ≡ rankOf (and3 (valueOf x) (valueOf y)) ⌝ }
+{
+    BOTH[index(x)][index(y)]
+}
+
+// The rank of `x and not y`.
+pub fn apart(x: u8, y: u8) -> u8
+    ensures { λ r. ⌜ r ≡ rankOf (and3 (valueOf x) (not3 (valueOf y))) ⌝ }
+{
+    APART[index(x)][index(y)]
 }

@@ -1,21 +1,16 @@
 -- The test `admits` is true exactly when some trace agrees with the knowledge and with what the message fixes: a trace of the stored
 -- knowledge is one of both, and a trace of both overwrites nothing and keeps the stored knowledge sound.
-use Prim.Native.Nat.{ℕ, zero, suc, _+_, _-_, _*_, _≤_, _<_}
+use Prim.Native.Nat.{ℕ, _-_, _≤_, _<_}
 use native.Mathlib.Omega.{arith}
 use mathlib.Core.Path.{_≡_, refl, sym, ap, _∙_}
-use mathlib.Core.Bool.{Bool, true, false, cond, _&&_}
+use mathlib.Core.Bool.{Bool, true}
 use mathlib.Core.Logic.{_⊎_, inl, inr, _↔_}
-use mathlib.Core.List.{List}
-use Rattle.knowledge.specs.Knowledge.{none}
-use Rattle.knowledge.specs.Trace.{tally}
+use Rattle.knowledge.specs.Knowledge.{none, Knowledge, Sized, noted, valued, number, Sound, Agrees, sound, stored, free, admits}
+use Rattle.knowledge.specs.Trace.{Trace, made, Admits}
 use Rattle.mtl.specs.Folds.{both, pair}
 use Rattle.policy.specs.declared.Sizes.{Sizes}
-use Rattle.message.specs.declared.Event.{Event}
 use Rattle.message.specs.Fixes.{Message, Fixes-number, Fixes-fact, Fits}
-use Rattle.knowledge.specs.Trace.{Trace, made, Admits}
-use Rattle.knowledge.specs.Knowledge.{Knowledge, Sized, noted, valued, number, Sound, Agrees, sound, stored, free, admits}
-use Rattle.knowledge.specs.Laws.{Limits}
-use Rattle.knowledge.specs.Laws.{Free, free-law, sound-law}
+use Rattle.knowledge.specs.Laws.{Limits, Free, free-law, sound-law}
 use Rattle.knowledge.specs.Store.{Fact, number-either, number-hit, fact-cases, fact-hit, facts-after, numbers-after, fixed-place, fixed-fact}
 use Rattle.knowledge.specs.Witness.{tally-least, tally-far, witness, witnessed}
 

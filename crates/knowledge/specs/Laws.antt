@@ -1,25 +1,19 @@
 -- The tests decide the statements: each is built of comparisons in the way in which its statement is built.
-use Prim.Native.Nat.{ℕ, zero, suc, _+_, _-_, _*_, _≤_, _<_}
+use Prim.Native.Nat.{ℕ, suc, _+_, _-_, _≤_, _<_}
 use native.Mathlib.Omega.{arith}
-use native.Mathlib.Decide.{decLt}
 use mathlib.Core.Path.{_≡_, refl, sym, ap, _∙_}
-use mathlib.Core.Bool.{Bool, true, false, not, cond, _&&_, _||_, Bool·beq, true≢false}
-use mathlib.Core.Logic.{_⊎_, inl, inr, _↔_}
-use mathlib.Core.List.{List}
-use lib.ListN.{getD, length}
+use mathlib.Core.Bool.{Bool, true, false, not, _&&_, _||_, Bool·beq, true≢false}
+use mathlib.Core.Logic.{inl, inr, _↔_}
 use lib.Dec.{ltb, leb, eqb}
-use borrow.Author.Tests.{ltb-true, ltb-false, leb-true, eqb-true, lt-ltb, le-leb, eq-eqb}
-use Rattle.mtl.specs.Algebra.{any, all}
-use Rattle.kleene.specs.Truth.{Truth}
-use Rattle.mtl.specs.Algebra.{two}
-use Rattle.knowledge.specs.Knowledge.{none}
+use borrow.Author.Tests.{ltb-true, leb-true, eqb-true, lt-ltb, le-leb, eq-eqb}
+use Rattle.mtl.specs.Algebra.{all, two}
+use Rattle.knowledge.specs.Knowledge.{none, Knowledge, noted, valued, number, Sound, Known-point, Known-none, is-point, is-none, sound, free-number, free-event, free}
 use Rattle.bits.specs.Bits.{bit}
 use Rattle.mtl.specs.Folds.{both, pair, any-some, any-true, some-below, below-some, below-each, each-below}
 use Rattle.policy.specs.declared.Sizes.{Sizes}
 use Rattle.message.specs.declared.Event.{Event}
 use Rattle.message.specs.declared.Event.the-variants.{Observation, Alive}
-use Rattle.message.specs.Fixes.{Message, Fixes-number, Fixes-fact, Fits}
-use Rattle.knowledge.specs.Knowledge.{Knowledge, noted, valued, number, Sound, Known-point, Level, Known-none, is-point, is-none, sound, Sized, free-number, free-event, free}
+use Rattle.message.specs.Fixes.{Message, Fixes-number, Fixes-fact}
 
 -- not a, or b: b where a
 pub imply : (a b : Bool) → (not a || b) ≡ true → a ≡ true → b ≡ true

@@ -7,3 +7,5 @@ pub mod Store
 pub mod Witness
 pub mod Conflict
 pub mod Worlds
+pub mod Run
+pub mod Runs

@@ -1,24 +1,22 @@
 -- What storing a message does to each sequence number and each fact.
-use Prim.Native.Nat.{ℕ, zero, suc, _+_, _-_, _*_, _≤_, _<_}
+use Prim.Native.Nat.{ℕ, suc, _+_, _-_, _*_, _≤_, _<_}
 use native.Mathlib.Omega.{arith}
 use native.Mathlib.Decide.{ℕ-discrete}
-use mathlib.Core.Path.{_≡_, refl, sym, ap, ap₂, _∙_}
-use mathlib.Core.Bool.{Bool, true, false, not, cond, _||_, true≢false, or-true, or-false, or-self}
+use mathlib.Core.Path.{_≡_, refl, sym, ap, _∙_}
+use mathlib.Core.Bool.{Bool, true, false, cond, _||_, true≢false, or-true, or-false, or-self}
 use mathlib.Core.Logic.{_⊎_, inl, inr, _↔_}
 use mathlib.Core.List.{List}
 use lib.ListN.{getD, length, set, length-set}
 use lib.Seq.{getD-set-same, getD-set-other}
 use lib.Bits.{bitOr}
 use Rattle.kleene.specs.Truth.{Truth, unknown, false3, true3}
-use Rattle.knowledge.specs.Knowledge.{none}
+use Rattle.knowledge.specs.Knowledge.{none, Knowledge, Sized, noted, valued, fact, number, Sound, put-numbers, put-facts, stored}
 use Rattle.bits.specs.Bits.{bit, bit-or}
 use Rattle.rows.specs.Grid.{same-row, same-place, in-grid}
 use Rattle.policy.specs.declared.Sizes.{Sizes}
 use Rattle.message.specs.declared.Event.{Event}
 use Rattle.message.specs.declared.Event.the-variants.{Observation, Alive}
 use Rattle.message.specs.Fixes.{Message, Fixes-number, Fixes-fact, Fits, Fits-event}
-use Rattle.knowledge.specs.Knowledge.{Knowledge, Sized, noted, valued, fact, number, Sound, put-numbers, put-facts, stored}
-use Rattle.knowledge.specs.Laws.{Limits}
 use Rattle.knowledge.specs.Laws.{Free}
 
 -- a list with two cells set

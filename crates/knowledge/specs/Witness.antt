@@ -1,22 +1,19 @@
 -- Sound knowledge has a trace that agrees with it: interpolate each run, and cut it at M.
-use Prim.Native.Nat.{ℕ, zero, suc, _+_, _-_, _*_, _≤_, _<_, min}
+use Prim.Native.Nat.{ℕ, zero, suc, _+_, _-_, _*_, _≤_, _<_}
 use native.Mathlib.Nat.{eq-or-lt-of-le, add-sub-of-le}
 use native.Mathlib.Omega.{arith}
 use mathlib.Core.Path.{_≡_, refl, sym, ap, ap₂, _∙_}
-use mathlib.Core.Bool.{Bool, true, false, cond, _&&_}
-use mathlib.Core.Logic.{_⊎_, inl, inr, _↔_, ⊎-elim}
+use mathlib.Core.Bool.{Bool, cond, _&&_}
+use mathlib.Core.Logic.{_⊎_, ⊎-elim}
 use mathlib.Core.List.{List}
-use lib.ListN.{getD, length, take, drop, length-take}
+use lib.ListN.{getD, take, drop, length-take}
 use lib.Seq.{getD-take, getD-drop}
 use lib.Dec.{ltb}
 use borrow.Author.Tests.{lt-ltb, le-ltb}
-use Rattle.knowledge.specs.Knowledge.{none}
-use Rattle.knowledge.specs.Trace.{tally}
-use Rattle.knowledge.specs.Numbers.{Known, Count, tally-count, counted, count-far, known-in, lowest, lowest-agrees}
-use Rattle.knowledge.specs.Numbers.{Sound as Sound-run, Agrees as Agrees-run}
+use Rattle.knowledge.specs.Knowledge.{none, Knowledge, valued, number, Sound, Agrees}
+use Rattle.knowledge.specs.Trace.{tally, Trace, made}
+use Rattle.knowledge.specs.Numbers.{Known, tally-count, counted, count-far, known-in, lowest, lowest-agrees, Sound as Sound-run}
 use Rattle.policy.specs.declared.Sizes.{Sizes}
-use Rattle.knowledge.specs.Trace.{Trace, made}
-use Rattle.knowledge.specs.Knowledge.{Knowledge, noted, valued, number, Sound, Agrees}
 
 pub tally-least : (e : ℕ → Bool) (p : ℕ) → tally e p ≤ p
 tally-least e zero = omega arith

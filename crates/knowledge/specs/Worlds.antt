@@ -1,29 +1,16 @@
 -- What the knowledge tells: more knowledge tells more, and what is told is so in every trace that agrees.
-use Prim.Native.Nat.{ℕ, zero, suc, _+_, _-_, _*_, _^_, _≤_, _<_}
+use Prim.Native.Nat.{ℕ, suc, _+_, _-_, _≤_, _<_}
 use native.Mathlib.Omega.{arith}
 use native.Mathlib.Decide.{decLt}
-use mathlib.Core.Path.{_≡_, refl, sym, ap, ap₂, _∙_}
-use mathlib.Core.Bool.{Bool, true, false, not, cond, true≢false}
-use mathlib.Core.Logic.{_⊎_, inl, inr, _↔_}
-use mathlib.Core.List.{List}
-use lib.ListN.{getD}
-use lib.Dec.{ltb}
-use borrow.Author.Tests.{ltb-true, ltb-false, lt-ltb}
-use Rattle.mtl.specs.Algebra.{any}
-use Rattle.kleene.specs.Truth.{Truth, unknown, false3, true3}
-use Rattle.mtl.specs.Algebra.{two}
-use Rattle.kleene.specs.Truth.{_⊑_, less, same}
+use mathlib.Core.Path.{_≡_, refl, sym, ap, _∙_}
+use mathlib.Core.Bool.{Bool, true, false, cond}
+use borrow.Author.Tests.{ltb-true}
+use Rattle.kleene.specs.Truth.{unknown, false3, true3, _⊑_, less, same}
 use Rattle.mtl.specs.Knowing.{Knows, True-to, Decides, open3, is-true, is-false}
-use Rattle.knowledge.specs.Knowledge.{none}
-use Rattle.knowledge.specs.Trace.{tally}
-use Rattle.knowledge.specs.Numbers.{tally-count}
-use Rattle.bits.specs.Bits.{bit, bit-high}
+use Rattle.knowledge.specs.Knowledge.{none, Knowledge, noted, valued, fact, number, Sound, Agrees, Known-point, Level, Known-none, is-point, is-none, world}
+use Rattle.knowledge.specs.Trace.{Trace, made, time-point, trace-world}
 use Rattle.mtl.specs.Folds.{some-below, none-below}
 use Rattle.policy.specs.declared.Sizes.{Sizes}
-use Rattle.message.specs.Fixes.{Message, Fixes-number, Fixes-fact, Fits}
-use Rattle.knowledge.specs.Trace.{Trace, made, Admits, time-point, trace-world}
-use Rattle.knowledge.specs.Knowledge.{Knowledge, noted, valued, fact, number, Sound, Agrees, Known-point, Level, Known-none, is-point, is-none, point-known, world}
-use Rattle.knowledge.specs.Laws.{Limits}
 use Rattle.knowledge.specs.Laws.{point-law, none-law}
 use Rattle.knowledge.specs.Witness.{tally-far}
 

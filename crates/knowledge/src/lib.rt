@@ -1,1 +1,340 @@
 // The knowledge (01: the record): known sequence numbers and facts.
+use message::Event;
+use policy::Sizes;
+ghost use mathlib.Core.Path.{_≡_};
+ghost use Prim.Native.Nat.{ℕ, suc, _+_, _-_, _*_, _^_, _≤_, _<_};
+ghost use mathlib.Core.Bool.{_&&_};
+ghost use lib.Bits.{bitOr};
+ghost use lib.ListN.{length, getD, set};
+ghost use Rattle.kleene.specs.Truth.{codeOf, valueOf, or3};
+ghost use Rattle.rows.specs.Over.{Over};
+ghost use Rattle.mtl.specs.Algebra.{two, all};
+ghost use Rattle.message.specs.Fixes.{Fits};
+ghost use Rattle.knowledge.specs.Knowledge.{none, Sized, Sound, sound, admits, stored};
+ghost use Rattle.knowledge.specs.Laws.{Limits};
+ghost use Rattle.knowledge.specs.Run.{cell, run-of, held, sent, follow, steady, Steady, Steady-runs, told, gap, may, Next, Previous, Point-row, word-sound, words-agree};
+
+// A sequence number that is not known.
+const NONE: u16 = 65535;
+
+// The first known place from `from` on, or the run's length.
+fn next_known(run: &[u16], from: usize) -> usize
+    requires { ⌜ from ≤ length (now run) ⌝ }
+    ensures { λ r. ⌜ Next (cell (now (run .entry))) (length (now (run .entry))) from r ⌝ }
+{
+    let mut i = from;
+    while i < run.len() {
+        if run[i] < NONE {
+            return i;
+        }
+        i += 1;
+    }
+    i
+}
+
+// The last known place before `place`.
+fn previous_known(run: &[u16], place: usize) -> usize
+    requires { ⌜ (0 < place) × (place ≤ length (now run)) × (cell (now run) 0 < none) ⌝ }
+    ensures { λ r. ⌜ Previous (cell (now (run .entry))) place r ⌝ }
+{
+    let mut i = place - 1;
+    while 0 < i {
+        if run[i] < NONE {
+            return i;
+        }
+        i -= 1;
+    }
+    0
+}
+
+// A number v, and a number w that stands d places later.
+fn follows(v: u16, w: u16, d: usize) -> bool
+    requires { ⌜ d < 65536 ⌝ }
+    ensures { λ r. ⌜ r ≡ follow v w d ⌝ }
+{
+    if w < v {
+        return false;
+    }
+    w as usize <= v as usize + d
+}
+
+// Is the run steady? What holds of neighbours among its known places holds of any two.
+fn is_steady(run: &[u16]) -> bool
+    requires { ⌜ (0 < length (now run)) × (length (now run) ≤ 1025) ⌝ }
+    ensures { λ r. ⌜ r ≡ steady (cell (now (run .entry))) (length (now (run .entry))) ⌝ }
+{
+    if run[0] != 0 {
+        return false;
+    }
+    let mut p: usize = 0;
+    let mut q = next_known(run, 1);
+    while q < run.len() {
+        if !follows(run[p], run[q], q - p) {
+            return false;
+        }
+        p = q;
+        q = next_known(run, q + 1);
+    }
+    true
+}
+
+// May the number v be stored at the place?
+fn may_store(run: &[u16], place: usize, v: u16) -> bool
+    requires { ⌜ (length (now run) ≤ 1025) × Steady (cell (now run)) (length (now run)) × (place < length (now run)) ⌝ }
+    ensures { λ r. ⌜ r ≡ may (cell (now (run .entry))) (length (now (run .entry))) place v ⌝ }
+{
+    if v == NONE {
+        return false;
+    }
+    let here = run[place];
+    if here < NONE {
+        return here == v;
+    }
+    let p = previous_known(run, place);
+    if !follows(run[p], v, place - p) {
+        return false;
+    }
+    let q = next_known(run, place + 1);
+    if q < run.len() {
+        return follows(v, run[q], q - place);
+    }
+    true
+}
+
+// What each minute between two neighbouring known places is told.
+fn gap_code(v: u16, w: u16, d: usize) -> u8
+    ensures { λ r. ⌜ r ≡ codeOf (gap v w d) ⌝ }
+{
+    if v == w {
+        return 2;
+    }
+    if d == 1 {
+        return 1;
+    }
+    0
+}
+
+// Joins the cells from lo up to hi with a code.
+fn join(row: &mut [u8; 1024], lo: usize, hi: usize, code: u8)
+    requires { ⌜ (lo ≤ hi) × (hi ≤ 1024) × (length (now row) ≡ 1024) ⌝ }
+    ensures { λ _. ⌜ Over (λ i. codeOf (or3 (valueOf (getD (now (row .entry)) i 0)) (valueOf code))) lo hi (now (row .entry)) (now (row .exit)) ⌝ }
+{
+    let mut i = lo;
+    while i < hi {
+        row[i] = kleene::or(row[i], code);
+        i += 1;
+    }
+}
+
+// Joins a row with what the run tells of each minute, gap by gap.
+fn join_run(row: &mut [u8; 1024], run: &[u16])
+    requires { ⌜ (0 < length (now run)) × (length (now run) ≤ 1025) × Steady (cell (now run)) (length (now run)) × (length (now row) ≡ 1024) ⌝ }
+    ensures { λ _. ⌜ ((m : ℕ) → suc m ≡ length (now (run .entry)) → Over (λ t. codeOf (or3 (valueOf (getD (now (row .entry)) t 0)) (told (cell (now (run .entry))) m t))) 0 m (now (row .entry)) (now (row .exit))) ⌝ }
+{
+    let mut p: usize = 0;
+    let mut q = next_known(run, 1);
+    while q < run.len() {
+        join(row, p, q, gap_code(run[p], run[q], q - p));
+        p = q;
+        q = next_known(run, q + 1);
+    }
+    join(row, p, run.len() - 1, 0);
+}
+
+// Is every component's run steady?
+fn are_steady(numbers: &[u16], components: usize, minutes: usize) -> bool
+    requires { ⌜ (minutes ≤ 1024) × (length (now numbers) ≡ components * suc minutes) ⌝ }
+    ensures { λ r. ⌜ r ≡ all two 0 components (λ c. steady (run-of (now (numbers .entry)) minutes c) (suc minutes)) ⌝ }
+{
+    let mut c: usize = 0;
+    let mut at: usize = 0;
+    while c < components {
+        let end = at + (minutes + 1);
+        if !is_steady(&numbers[at..end]) {
+            return false;
+        }
+        at = end;
+        c += 1;
+    }
+    true
+}
+
+// A minute's two words of facts: no value bit without its proposition, and none from the limit on.
+fn is_word_sound(known: u32, values: u32, limit: usize) -> bool
+    ensures { λ r. ⌜ ((p : ℕ) → limit ≡ 2 ^ p → r ≡ word-sound p known values) ⌝ }
+{
+    if known | values != known {
+        return false;
+    }
+    (known as usize) < limit
+}
+
+// Are the facts of every minute sound?
+fn are_facts_sound(facts: &[u32], propositions: usize, minutes: usize) -> bool
+    requires { ⌜ (propositions ≤ 32) × (length (now facts) ≡ 2 * minutes) ⌝ }
+    ensures { λ r. ⌜ r ≡ all two 0 minutes (λ t. word-sound propositions (getD (now (facts .entry)) (2 * t) 0) (getD (now (facts .entry)) (2 * t + 1) 0)) ⌝ }
+{
+    let limit = 1usize << propositions;
+    let mut t: usize = 0;
+    while t < minutes {
+        if !is_word_sound(facts[2 * t], facts[2 * t + 1], limit) {
+            return false;
+        }
+        t += 1;
+    }
+    true
+}
+
+// Is the knowledge sound (01: the record is sound)?
+pub fn is_sound(sizes: Sizes, numbers: &[u16], facts: &[u32]) -> bool
+    requires { ⌜ Limits sizes × Sized sizes (held (now numbers) (now facts)) ⌝ }
+    ensures { λ r. ⌜ r ≡ sound sizes (held (now (numbers .entry)) (now (facts .entry))) ⌝ }
+{
+    if !are_steady(numbers, sizes.components, sizes.minutes) {
+        return false;
+    }
+    are_facts_sound(facts, sizes.propositions, sizes.minutes)
+}
+
+// No named proposition is known with another value.
+fn do_words_agree(known: u32, old: u32, named: u32, values: u32) -> bool
+    ensures { λ r. ⌜ r ≡ words-agree known old named values ⌝ }
+{
+    known & named & (old ^ values) == 0
+}
+
+// May an observation's two numbers be stored in the run? Each is tried by itself, and that decides both.
+fn may_observe(run: &[u16], minute: usize, number: u16) -> bool
+    requires { ⌜ (length (now run) ≤ 1025) × Steady (cell (now run)) (length (now run)) × (suc minute < length (now run)) × (1 ≤ number) ⌝ }
+    ensures { λ r. ⌜ r ≡ (may (cell (now (run .entry))) (length (now (run .entry))) (suc minute) number && may (cell (now (run .entry))) (length (now (run .entry))) minute (number - 1)) ⌝ }
+{
+    if !may_store(run, minute + 1, number) {
+        return false;
+    }
+    may_store(run, minute, number - 1)
+}
+
+// Does an observation go with its component's run and with its minute's facts?
+fn admits_observation(
+    run: &[u16],
+    facts: &[u32],
+    minute: usize,
+    number: u16,
+    named: u32,
+    values: u32,
+) -> bool
+    requires { ⌜ (length (now run) ≤ 1025) × Steady (cell (now run)) (length (now run)) × (suc minute < length (now run)) × (1 ≤ number) × (2 * minute + 1 < length (now facts)) ⌝ }
+    ensures { λ r. ⌜ r ≡ (words-agree (getD (now (facts .entry)) (2 * minute) 0) (getD (now (facts .entry)) (2 * minute + 1) 0) named values && (may (cell (now (run .entry))) (length (now (run .entry))) (suc minute) number && may (cell (now (run .entry))) (length (now (run .entry))) minute (number - 1))) ⌝ }
+{
+    if !do_words_agree(facts[2 * minute], facts[2 * minute + 1], named, values) {
+        return false;
+    }
+    may_observe(run, minute, number)
+}
+
+// Does the message go with the knowledge, or is it a conflict (01: clash)?
+pub fn admits_message(
+    sizes: Sizes,
+    numbers: &[u16],
+    facts: &[u32],
+    component: usize,
+    event: Event,
+) -> bool
+    requires { ⌜ Limits sizes × Sized sizes (held (now numbers) (now facts)) × Sound sizes (held (now numbers) (now facts)) × Fits sizes (sent component event) ⌝ }
+    ensures { λ r. ⌜ r ≡ admits sizes (held (now (numbers .entry)) (now (facts .entry))) (sent component event) ⌝ }
+{
+    let at = component * (sizes.minutes + 1);
+    let end = at + (sizes.minutes + 1);
+    match event {
+        Event::Observation {
+            minute,
+            number,
+            named,
+            values,
+        } => admits_observation(
+            &numbers[at..end],
+            facts,
+            minute as usize,
+            number,
+            named,
+            values,
+        ),
+        Event::Alive { minute, number } => may_store(&numbers[at..end], minute as usize, number),
+    }
+}
+
+// Stores an observation's two numbers.
+fn store_numbers(numbers: &mut [u16], place: usize, number: u16)
+    requires { ⌜ (suc place < length (now numbers)) × (1 ≤ number) ⌝ }
+    ensures { λ _. ⌜ now (numbers .exit) ≡ set (set (now (numbers .entry)) (suc place) number) place (number - 1) ⌝ }
+{
+    numbers[place + 1] = number;
+    numbers[place] = number - 1;
+}
+
+// Stores what an observation says of its minute's propositions.
+fn store_facts(facts: &mut [u32], place: usize, named: u32, values: u32)
+    requires { ⌜ place + 1 < length (now facts) ⌝ }
+    ensures { λ _. ⌜ now (facts .exit) ≡ set (set (now (facts .entry)) place (bitOr (getD (now (facts .entry)) place 0) named)) (place + 1) (bitOr (getD (now (facts .entry)) (place + 1) 0) values) ⌝ }
+{
+    let known = facts[place];
+    let old = facts[place + 1];
+    facts[place] = known | named;
+    facts[place + 1] = old | values;
+}
+
+// Stores what the message fixes, and nothing else.
+pub fn store(sizes: Sizes, numbers: &mut [u16], facts: &mut [u32], component: usize, event: Event)
+    requires { ⌜ Limits sizes × Sized sizes (held (now numbers) (now facts)) × Fits sizes (sent component event) ⌝ }
+    ensures { λ _. ⌜ now (numbers .exit) ≡ stored sizes (held (now (numbers .entry)) (now (facts .entry))) (sent component event) .numbers ⌝ }
+    ensures { λ _. ⌜ now (facts .exit) ≡ stored sizes (held (now (numbers .entry)) (now (facts .entry))) (sent component event) .facts ⌝ }
+{
+    let at = component * (sizes.minutes + 1);
+    match event {
+        Event::Observation {
+            minute,
+            number,
+            named,
+            values,
+        } => {
+            let t = minute as usize;
+            store_numbers(numbers, at + t, number);
+            store_facts(facts, 2 * t, named, values);
+        }
+        Event::Alive { minute, number } => {
+            numbers[at + minute as usize] = number;
+        }
+    }
+}
+
+// Fills the cells below m with "false".
+fn fill(row: &mut [u8; 1024], m: usize)
+    requires { ⌜ (m ≤ 1024) × (length (now row) ≡ 1024) ⌝ }
+    ensures { λ _. ⌜ Over (λ i. 2) 0 m (now (row .entry)) (now (row .exit)) ⌝ }
+{
+    let mut i = 0;
+    while i < m {
+        row[i] = 2;
+        i += 1;
+    }
+}
+
+// Which minutes are time points (01: busy, quiet or open), as truth codes; the cells past the last minute are 0.
+pub fn point_row(sizes: Sizes, numbers: &[u16]) -> [u8; 1024]
+    requires { ⌜ (sizes .minutes ≤ 1024) × (length (now numbers) ≡ sizes .components * suc (sizes .minutes)) × Steady-runs sizes (now numbers) ⌝ }
+    ensures { λ r. ⌜ Point-row sizes (now (numbers .entry)) r ⌝ }
+{
+    let components = sizes.components;
+    let minutes = sizes.minutes;
+    let mut row = [0u8; 1024];
+    fill(&mut row, minutes);
+    let mut c: usize = 0;
+    let mut at: usize = 0;
+    while c < components {
+        let end = at + (minutes + 1);
+        join_run(&mut row, &numbers[at..end]);
+        at = end;
+        c += 1;
+    }
+    row
+}

@@ -1,8 +1,8 @@
 -- Each refusal has its own cause: the policy's reader answers 1 to 4 only, the message's 7 and 8 only, and each check between one number.
-use Prim.Native.Nat.{ℕ, zero, suc, _≤_, _<_}
+use Prim.Native.Nat.{ℕ, zero, suc, _≤_}
 use native.Mathlib.Omega.{arith}
 use mathlib.Core.Path.{_≡_, refl, sym, ap, _∙_}
-use mathlib.Core.Bool.{Bool, true, false, cond, true≢false}
+use mathlib.Core.Bool.{Bool, true, false, true≢false}
 use mathlib.Core.Logic.{_↔_}
 use mathlib.Core.List.{List}
 use lib.Dec.{eqb, leb}
@@ -12,20 +12,19 @@ use Rattle.refusal.specs.declared.Refusal.{Refusal}
 use Rattle.refusal.specs.declared.Refusal.the-variants.{TruncatedPolicy, BadHeading, BadSubformula, RuleCount, BufferSize, CorruptKnowledge, TruncatedMessage, BadMessage, Conflict, OutOfRange}
 use Rattle.refusal.specs.Numbers.{numberOf}
 use Rattle.policy.specs.declared.Sizes.{Sizes}
-use Rattle.policy.specs.declared.Policy.{Policy}
 use Rattle.policy.specs.declared.Answer.{Answer as Checked}
 use Rattle.policy.specs.declared.Answer.the-variants as C
-use Rattle.policy.specs.Format.{check, andThen, within, fieldsAt, goodLine, offset, rulesUpTo, headingAnswer, lineAnswer, linesAnswer, countOf, answerOf as policy-answer, policyOf}
-use Rattle.policy.specs.Proper.{Proper, Causes as Policy-reader-causes}
+use Rattle.policy.specs.Format.{check, andThen, within, fieldsAt, goodLine, offset, rulesUpTo, headingAnswer, lineAnswer, linesAnswer, closingAnswer, countOf, answerOf as policy-answer, policyOf}
+use Rattle.policy.specs.Proper.{Causes as Policy-reader-causes}
 use Rattle.message.specs.Format.{lengthOf, goodMessage, answerOf as message-answer}
-use Rattle.message.specs.Fixes.{Message, Fits, Well-formed, meaningOf}
+use Rattle.message.specs.Fixes.{Fits, Well-formed, meaningOf}
 use Rattle.message.specs.Proper.{Causes as Message-reader-causes}
 use Rattle.knowledge.specs.Knowledge.{Sound, sound, admits}
 use Rattle.knowledge.specs.Laws.{Limits, sound-law}
 use Rattle.knowledge.specs.Conflict.{admits-law}
 use Rattle.monitor.specs.declared.Answer.{Answer}
 use Rattle.monitor.specs.declared.Answer.the-variants.{Done, Received, Refused}
-use Rattle.monitor.specs.State.{State, Outcome, Sized, sized, opened, settle, take-message, refused, guard, afterwards, open-state, receive, Taken}
+use Rattle.monitor.specs.State.{State, Outcome, Sized, sized, opened, settle, refused, guard, afterwards, open-state, receive}
 use Rattle.monitor.specs.Demands.{sizesOf, Some-trace, Policy-causes, Policy-passed, Opening-causes, Passed, Take-causes}
 use Rattle.monitor.specs.Invariant.{long-of}
 use Rattle.monitor.specs.Runs.{sized-law}
@@ -60,7 +59,7 @@ lines-numbered s (suc i) = go (linesAnswer s i) (lines-numbered s i) (leb (offse
     go C.Accepted n true true = tt
 
 policy-numbered : (s : List ℕ) → Numbered 1 4 (policy-answer s)
-unfolding policy-answer
+unfolding policy-answer closingAnswer
 policy-numbered s =
     go (leb 5 (length s)) (headingAnswer s) (heading-numbered s) (linesAnswer s (countOf s)) (lines-numbered s (countOf s))
     (eqb (offset s (countOf s)) (length s)) (within 1 8 (rulesUpTo s (countOf s)))

@@ -3,22 +3,21 @@
 --
 -- s are the bytes of a card, any bytes; `policyOf s` is what they say where they are accepted. x is a state: the four lent buffers, of any
 -- length and content. b are the bytes of a slip, any bytes.
-use Prim.Native.Nat.{ℕ, zero, suc, _+_, _*_, _≤_, _<_}
+use Prim.Native.Nat.{ℕ, _+_, _*_, _≤_, _<_}
 use mathlib.Core.Path.{_≡_}
 use mathlib.Core.Bool.{Bool, true, false, cond}
 use mathlib.Core.Logic.{_⊎_, _↔_, _≢_}
-use mathlib.Core.List.{List, [], _∷_, _++_, List·Memᴰ}
+use mathlib.Core.List.{List, _∷_, _++_, List·Memᴰ}
 use lib.ListN.{getD, length}
 use Rattle.kleene.specs.Truth.{true3, false3, codeOf}
 use Rattle.mtl.specs.Textbook.{Holds}
 use Rattle.refusal.specs.declared.Refusal.{Refusal}
-use Rattle.refusal.specs.declared.Refusal.the-variants.{TruncatedPolicy, BadHeading, BadSubformula, RuleCount, BufferSize, CorruptKnowledge, TruncatedMessage, BadMessage, Conflict, OutOfRange}
+use Rattle.refusal.specs.declared.Refusal.the-variants.{TruncatedPolicy, BadHeading, BadSubformula, RuleCount, BufferSize, CorruptKnowledge, TruncatedMessage, BadMessage, Conflict}
 use Rattle.policy.specs.declared.Sizes.{Sizes}
 use Rattle.policy.specs.declared.Policy.{Policy}
 use Rattle.policy.specs.declared.Answer.the-variants as C
-use Rattle.policy.specs.Format.{answerOf as policy-answer, policyOf}
+use Rattle.policy.specs.Format.{policyOf, countOf, rulesUpTo}
 use Rattle.policy.specs.Proper.{formulaAt, rulesOf, Between, Cut, Misheaded, Misformed, Whole}
-use Rattle.policy.specs.Format.{countOf, rulesUpTo}
 use Rattle.message.specs.Format.{lengthOf, goodMessage}
 use Rattle.message.specs.Fixes.{Message, Fixes-number, Fixes-fact, Well-formed, meaningOf}
 use Rattle.message.specs.Proper.{Cut as Cut-message}

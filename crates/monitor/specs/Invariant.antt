@@ -2,26 +2,25 @@
 use Prim.Native.Nat.{ℕ, zero, suc, _+_, _-_, _*_, _/_, _%_, _≤_, _<_}
 use native.Mathlib.Omega.{arith}
 use native.Mathlib.Decide.{decLt, ℕ-discrete}
-use mathlib.Core.Path.{_≡_, refl, sym, ap, ap₂, subst, _∙_}
-use mathlib.Core.Bool.{Bool, true, false, cond, _&&_, true≢false}
-use mathlib.Core.Logic.{_⊎_, inl, inr, _↔_}
-use mathlib.Core.List.{List, [], _∷_}
+use mathlib.Core.Path.{_≡_, refl, sym, ap, _∙_}
+use mathlib.Core.Bool.{Bool, true, false, cond, true≢false}
+use mathlib.Core.Logic.{_⊎_, inl, inr}
+use mathlib.Core.List.{List}
 use lib.ListN.{getD, length, set, replicate, length-replicate, getD-replicate, List·getD-eq-default}
 use lib.Seq.{getD-set-same, getD-set-other, set-out, ext-getD}
 use lib.Dec.{eqb}
 use lib.Bits.{bitOr, or-lt}
-use borrow.Author.Tests.{eq-eqb, ne-eqb}
-use Rattle.kleene.specs.Truth.{Truth, unknown, false3, true3, codeOf}
+use borrow.Author.Tests.{ne-eqb}
+use Rattle.kleene.specs.Truth.{codeOf}
 use Rattle.bits.specs.Bits.{bit, bit-of-zero}
 use Rattle.mtl.specs.Folds.{both}
-use Rattle.rows.specs.Grid.{table, table-length, table-at, place-of, in-grid, row-in, place-in}
+use Rattle.rows.specs.Grid.{table, table-length, table-at, place-of, in-grid, place-in}
 use Rattle.policy.specs.declared.Policy.{Policy}
 use Rattle.policy.specs.Proper.{Proper}
 use Rattle.message.specs.declared.Event.{Event}
 use Rattle.message.specs.declared.Event.the-variants.{Observation, Alive}
 use Rattle.message.specs.Fixes.{Message, Fixes-number, Fixes-fact, Fits, Fits-event}
-use Rattle.knowledge.specs.Knowledge.{Knowledge, none, noted, valued, fact, number, Sound, is-point, sound, fresh, put-facts, stored, free, admits}
-use Rattle.knowledge.specs.Knowledge.{Sized as Long}
+use Rattle.knowledge.specs.Knowledge.{Knowledge, none, noted, valued, number, Sound, is-point, sound, fresh, put-facts, stored, free, admits, Sized as Long}
 use Rattle.knowledge.specs.Laws.{Free, free-law, sound-law, point-law}
 use Rattle.knowledge.specs.Store.{Fact, fact-law, store-long, number-either, number-hit, facts-after, numbers-after}
 use Rattle.valuation.specs.Sheets.{value, verdict, valuation-of, verdicts-of}
@@ -104,7 +103,7 @@ module _ (c : Policy) where
   unfolding valued
   fresh-valued i t = ap (λ (x : ℕ). bit x i) (fresh-facts (2 * t + 1)) ∙ bit-of-zero i
 
-  fresh-sound : Sound (c .sizes) (fresh (c .sizes))
+  pub fresh-sound : Sound (c .sizes) (fresh (c .sizes))
   fresh-sound = record {
     first = fresh-first;
     apart = λ s a b l h k x y. absurd (omega (arith, fresh-known s b (number (c .sizes) (fresh (c .sizes)) s b) l k y refl));
@@ -193,7 +192,7 @@ module _ (c : Policy) where
       (set-word l (2 * t) (bitOr (getD l (2 * t) 0) named) f (or-lt 32 (getD l (2 * t) 0) named (f (2 * t)) (z .2)))
       (or-lt 32 (getD l (2 * t + 1) 0) values (f (2 * t + 1)) (z .3)) j
 
-  sheet-lengths : (k : Knowledge) → (length (valuation-of c k) ≡ c .count * c .sizes .minutes) × (length (verdicts-of c k) ≡ c .rules * c .sizes .minutes)
+  pub sheet-lengths : (k : Knowledge) → (length (valuation-of c k) ≡ c .count * c .sizes .minutes) × (length (verdicts-of c k) ≡ c .rules * c .sizes .minutes)
   unfolding valuation-of verdicts-of
   sheet-lengths k = (table-length (c .count * c .sizes .minutes) _, table-length (c .rules * c .sizes .minutes) _)
 

@@ -1,29 +1,29 @@
 -- What a kept-up state shows: its sheets are the reading; a trace agrees with its knowledge exactly when it admits the messages; more messages
 -- keep every verdict; and the same messages make the same state.
-use Prim.Native.Nat.{ℕ, zero, suc, _+_, _-_, _*_, _/_, _%_, _≤_, _<_}
+use Prim.Native.Nat.{ℕ, suc, _+_, _-_, _*_, _/_, _%_, _≤_, _<_}
 use native.Mathlib.Omega.{arith}
 use native.Mathlib.Decide.{decLt, ℕ-discrete}
 use mathlib.Core.Path.{_≡_, refl, sym, ap, ap₂, subst, _∙_}
-use mathlib.Core.Bool.{Bool, true, false, not, cond, true≢false}
+use mathlib.Core.Bool.{Bool, true, false, cond, true≢false}
 use mathlib.Core.Logic.{_⊎_, inl, inr, _↔_, _≢_}
 use mathlib.Core.List.{List}
 use lib.ListN.{getD, length}
 use lib.Seq.{ext-getD}
 use Rattle.kleene.specs.Truth.{Truth, unknown, false3, true3, codeOf, _⊑_, less, same}
-use Rattle.bits.specs.Bits.{bit, bits-same, bit-high}
-use Rattle.mtl.specs.Knowing.{knows-more, Decides, open3, is-true, is-false, reading-decides}
-use Rattle.rows.specs.Grid.{table, table-at, row-of, place-of, in-grid, row-in, place-in, grid-at}
+use Rattle.bits.specs.Bits.{bits-same, bit-high}
+use Rattle.mtl.specs.Knowing.{knows-more, Decides, open3, is-true, is-false}
+use Rattle.rows.specs.Grid.{table-at, row-of, place-of, in-grid, row-in, place-in, grid-at}
 use Rattle.policy.specs.declared.Policy.{Policy}
 use Rattle.policy.specs.Proper.{Proper, formulaAt}
-use Rattle.message.specs.Fixes.{Message, Fixes-number, Fixes-fact, Fits}
+use Rattle.message.specs.Fixes.{Message, Fixes-number, Fixes-fact}
 use Rattle.knowledge.specs.Trace.{Trace, made, Admits}
-use Rattle.knowledge.specs.Knowledge.{Knowledge, none, noted, valued, fact, number, Sound, Agrees, Known-point, is-point, world}
+use Rattle.knowledge.specs.Knowledge.{Knowledge, none, noted, valued, number, Sound, Agrees, Known-point, is-point, world}
 use Rattle.knowledge.specs.Laws.{point-law}
-use Rattle.knowledge.specs.Store.{Fact, fact-law, fixed-place, fixed-fact}
+use Rattle.knowledge.specs.Store.{fact-law, fixed-place, fixed-fact}
 use Rattle.knowledge.specs.Worlds.{More, point-more, world-more}
 use Rattle.valuation.specs.Sheets.{value, verdict, valuation-of, verdicts-of}
-use Rattle.monitor.specs.State.{State, Sized, over}
-use Rattle.monitor.specs.Demands.{shown, rule-line, Sheets, Exact}
+use Rattle.monitor.specs.State.{State, over}
+use Rattle.monitor.specs.Demands.{shown, rule-line, Sheets}
 use Rattle.monitor.specs.Invariant.{Kept-up}
 
 -- ---- the sheets

@@ -5,3 +5,6 @@ pub mod Invariant
 pub mod Keeping
 pub mod Runs
 pub mod Causes
+pub mod Proved
+pub mod Small
+pub mod Lookup

@@ -1,12 +1,11 @@
 -- Takes under an accepted card, one and a list of them: each keeps the state up, and is accepted exactly when a trace admits it together with
 -- what was accepted before.
-use Prim.Native.Nat.{ℕ, suc, _*_, _≤_, _<_}
+use Prim.Native.Nat.{ℕ, _<_}
 use native.Mathlib.Omega.{arith}
-use mathlib.Core.Path.{_≡_, refl, sym, ap, _∙_}
-use mathlib.Core.Bool.{Bool, true, false, cond, true≢false}
+use mathlib.Core.Path.{_≡_, refl, sym, _∙_}
+use mathlib.Core.Bool.{Bool, true, false, true≢false}
 use mathlib.Core.Logic.{_⊎_, inl, inr, _↔_, _≢_}
 use mathlib.Core.List.{List, [], _∷_, _++_, map, List·Memᴰ, List·Memᴰ·head, List·Memᴰ·tail, List·Memᴰ·not-nil, List·Memᴰ·eq-of-singleton, List·Memᴰ·append-cases, Memᴰ·append-left, Memᴰ·append-right}
-use lib.ListN.{getD, length}
 use borrow.Author.Tests.{eqb-true, eq-eqb}
 use Rattle.kleene.specs.Truth.{Truth, unknown, true3, false3, codeOf}
 use Rattle.mtl.specs.Algebra.{two}
@@ -14,8 +13,6 @@ use Rattle.mtl.specs.Reading.{reading}
 use Rattle.mtl.specs.Folds.{both, pair}
 use Rattle.mtl.specs.Knowing.{Decides, open3, is-true, is-false, reading-decides}
 use Rattle.mtl.specs.Textbook.{Holds, textbook}
-use Rattle.refusal.specs.declared.Refusal.{Refusal}
-use Rattle.policy.specs.declared.Sizes.{Sizes}
 use Rattle.policy.specs.declared.Policy.{Policy}
 use Rattle.policy.specs.declared.Answer.{Answer as Checked}
 use Rattle.policy.specs.declared.Answer.the-variants as C
@@ -24,20 +21,20 @@ use Rattle.policy.specs.Proper.{Proper, formulaAt}
 use Rattle.message.specs.Format.{answerOf as message-answer}
 use Rattle.message.specs.Fixes.{Message, Fits, Well-formed, meaningOf}
 use Rattle.knowledge.specs.Trace.{Trace, Admits, Admits-all, time-point, trace-world}
-use Rattle.knowledge.specs.Knowledge.{Knowledge, Sound, Agrees, is-point, sound, stored, admits, world}
+use Rattle.knowledge.specs.Knowledge.{Knowledge, Sound, Agrees, is-point, sound, admits, world}
 use Rattle.knowledge.specs.Laws.{Limits, sound-law, point-law}
 use Rattle.knowledge.specs.Conflict.{admits-law}
 use Rattle.knowledge.specs.Worlds.{point-so, world-so}
 use Rattle.valuation.specs.Sheets.{value}
 use Rattle.monitor.specs.declared.Answer.{Answer}
 use Rattle.monitor.specs.declared.Answer.the-variants.{Done, Received, Refused}
-use Rattle.monitor.specs.State.{State, Outcome, Sized, sized, opened, settle, take-message, refused, guard, afterwards, receive, Receive, run, Taken, took, accepted-from}
+use Rattle.monitor.specs.State.{State, Outcome, Sized, sizes-fit, sized, opened, settle, take-message, afterwards, receive, Receive, run, Taken, took, accepted-from}
 use Rattle.monitor.specs.Demands.{shown, rule-line, sizesOf, Some-trace, Plain, kept, broken, Sends}
 use Rattle.monitor.specs.Invariant.{Kept-up, long-of, relabel, opened-up, next-up}
-use Rattle.monitor.specs.Keeping.{is-over, sheets-over, shown-at, verdict-point, marked, agrees-law, stands}
+use Rattle.monitor.specs.Keeping.{shown-at, verdict-point, marked, agrees-law, stands}
 
 pub sized-law : (p : Policy) (x : State) → (sized p x ≡ true) ↔ Sized p x
-unfolding sized
+unfolding sizes-fit
 sized-law p x = (there, back)
   where
     there : sized p x ≡ true → Sized p x

@@ -1,13 +1,12 @@
 -- The state, and what an opening and a take do, as functions of the bytes and the state. The contracts and the demands speak of these.
-use Prim.Native.Nat.{ℕ, zero, suc, _+_, _*_}
+use Prim.Native.Nat.{ℕ, suc, _+_, _*_}
 use mathlib.Core.Path.{_≡_}
 use mathlib.Core.Bool.{Bool, true, false, cond, _&&_}
 use mathlib.Core.List.{List, [], _∷_, _++_, map}
 use lib.Dec.{eqb}
-use lib.ListN.{getD, length, replicate}
+use lib.ListN.{length, replicate}
 use Rattle.refusal.specs.declared.Refusal.{Refusal}
 use Rattle.refusal.specs.declared.Refusal.the-variants.{BufferSize, CorruptKnowledge, Conflict}
-use Rattle.policy.specs.declared.Sizes.{Sizes}
 use Rattle.policy.specs.declared.Policy.{Policy}
 use Rattle.policy.specs.declared.Answer.{Answer as Checked}
 use Rattle.policy.specs.declared.Answer.the-variants as C
@@ -28,10 +27,18 @@ pub record State : Type 0 where
   -- the verdict sheet
   pub verdicts : List ℕ
 
+-- the lent buffers as a state
+abbrev pub lent : List ℕ → List ℕ → List ℕ → List ℕ → State
+lent numbers facts valuation verdicts = record { known = record { numbers = numbers; facts = facts }; valuation = valuation; verdicts = verdicts }
+
 -- what a call answers, and the state it leaves
 pub record Outcome : Type 0 where
   pub answer : Answer
   pub state : State
+
+-- a call's answer, and its lent buffers as it returns
+abbrev pub outcome : Answer → List ℕ → List ℕ → List ℕ → List ℕ → Outcome
+outcome a numbers facts valuation verdicts = record { answer = a; state = lent numbers facts valuation verdicts }
 
 -- "A refusal gives number and place and writes nothing"
 abbrev pub refused : State → Refusal → Outcome
@@ -54,13 +61,16 @@ module _ (p : Policy) where
     pub valuation : length (x .valuation) ≡ p .count * p .sizes .minutes
     pub verdicts : length (x .verdicts) ≡ p .rules * p .sizes .minutes
 
-  -- the same as a test
-  unfoldable pub sized : State → Bool
-  sized x =
-      eqb (length (x .known .numbers)) (p .sizes .components * suc (p .sizes .minutes))
-      && (eqb (length (x .known .facts)) (2 * p .sizes .minutes)
-      && (eqb (length (x .valuation)) (p .count * p .sizes .minutes)
-      && eqb (length (x .verdicts)) (p .rules * p .sizes .minutes)))
+  -- the same as a test, of the four lengths
+  unfoldable pub sizes-fit : ℕ → ℕ → ℕ → ℕ → Bool
+  sizes-fit numbers facts valuation verdicts =
+      eqb numbers (p .sizes .components * suc (p .sizes .minutes))
+      && (eqb facts (2 * p .sizes .minutes)
+      && (eqb valuation (p .count * p .sizes .minutes)
+      && eqb verdicts (p .rules * p .sizes .minutes)))
+
+  abbrev pub sized : State → Bool
+  sized x = sizes-fit (length (x .known .numbers)) (length (x .known .facts)) (length (x .valuation)) (length (x .verdicts))
 
   -- "Opening makes a fresh record; the verdict sheet is blank and the work sheet holds the reading over that record"
   unfoldable pub opened : State

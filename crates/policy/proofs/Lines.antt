@@ -1,35 +1,21 @@
 -- The table of subformulas as the loop fills it, one line after another. Assumes nothing.
-use Prim.Native.Nat.{ℕ, zero, suc, _+_, _-_, _≤_, _<_}
-use mathlib.Core.Path.{_≡_, refl, sym, ap, subst, _∙_}
+use Prim.Native.Nat.{ℕ, suc, _+_, _≤_, _<_}
+use mathlib.Core.Path.{_≡_, refl, sym}
 use mathlib.Core.Bool.{Bool, true, false}
-use mathlib.Core.List.{List, [], _∷_, _++_}
+use mathlib.Core.List.{List}
 use native.Mathlib.Omega.{arith}
-use native.Mathlib.Numerals.{add-one}
 use borrow.Author.Tests.{leb-true}
 use lib.Dec.{leb}
-use lib.ListN.{length, getD, set, replicate, length-append, length-replicate}
-use lib.Seq.{set-at, append-snoc}
+use lib.ListN.{length, getD, set, replicate}
 use Rattle.encoding.specs.Fields.{has, size}
 use Rattle.refusal.specs.declared.Refusal.{Refusal}
 use Rattle.refusal.specs.declared.Refusal.the-variants.{TruncatedPolicy, BadSubformula}
 use Rattle.policy.specs.declared.Subformula.{Subformula}
 use Rattle.policy.specs.declared.Fields.{Fields}
-use Rattle.policy.specs.declared.Answer.{Answer}
 use Rattle.policy.specs.declared.Answer.the-variants.{Accepted, Refused}
-use Rattle.policy.specs.Format.{
-  lineLength,
-  fieldsAt,
-  goodLine,
-  subformulaOf,
-  subformulaAt,
-  offset,
-  linesAnswer,
-  linesUpTo,
-  noLine,
-  subformulasOf,
-  rulesUpTo,
-}
+use Rattle.policy.specs.Format.{lineLength, fieldsAt, goodLine, subformulaOf, subformulaAt, offset, linesAnswer, noLine, subformulasOf, rulesUpTo}
 use Rattle.policy.specs.Lines.{Scans}
+use Rattle.policy.specs.Table.{none-yet, one-more}
 use Rattle.policy.specs.Answers.{cut-line, bad-line, fine-line, next-line, first-refused}
 
 -- the first i lines are accepted and read
@@ -40,32 +26,6 @@ pub record UpTo (s : List ℕ) (i : ℕ) (subformulas : List Subformula) (rules 
   pub counted : rules ≡ rulesUpTo s i
   pub few : rules ≤ i
   pub table : subformulas ≡ subformulasOf s i
-
-up-to-length : (s : List ℕ) (n : ℕ) → length (linesUpTo s n) ≡ n
-unfolding linesUpTo
-up-to-length s zero = refl
-up-to-length s (suc n) = length-append (linesUpTo s n) (subformulaAt s (offset s n) ∷ []) ∙ ap (λ (k : ℕ). k + 1) (up-to-length s n) ∙ add-one n
-
-none-yet : (s : List ℕ) → replicate 64 noLine ≡ subformulasOf s 0
-unfolding subformulasOf linesUpTo
-none-yet s = refl
-
-one-more : (s : List ℕ) (i : ℕ) → i < 64 → set (subformulasOf s i) i (subformulaAt s (offset s i)) ≡ subformulasOf s (suc i)
-unfolding subformulasOf linesUpTo
-one-more s i h =
-    let v = subformulaAt s (offset s i) in
-    let k : 64 - i ≡ suc (64 - suc i) = omega arith in
-    rw k
-    (set-at (linesUpTo s i) noLine (replicate (64 - suc i) noLine) v i (up-to-length s i)
-    ∙ sym (append-snoc (linesUpTo s i) v (replicate (64 - suc i) noLine)))
-
-pub table-length : (s : List ℕ) (i : ℕ) → i ≤ 64 → length (subformulasOf s i) ≡ 64
-unfolding subformulasOf
-table-length s i h =
-    length-append (linesUpTo s i) (replicate (64 - i) noLine)
-    ∙ ap (λ (k : ℕ). k + length (replicate (64 - i) noLine)) (up-to-length s i)
-    ∙ ap (λ (k : ℕ). i + k) (length-replicate (64 - i) noLine)
-    ∙ omega arith
 
 pub nothing-read : (s : List ℕ) → 5 ≤ length s → UpTo s 0 (replicate 64 noLine) 0 5
 unfolding linesAnswer offset rulesUpTo

@@ -1,6 +1,6 @@
 -- What the answers of the lines come to, line by line. Assumes nothing.
 use Prim.Native.Nat.{ℕ, zero, suc, _+_, _-_, _≤_, _<_}
-use mathlib.Core.Path.{_≡_, refl, sym, ap, subst, _∙_}
+use mathlib.Core.Path.{_≡_, subst, _∙_}
 use mathlib.Core.Bool.{Bool, true, false}
 use mathlib.Core.List.{List}
 use native.Mathlib.Numerals.{unary-clauses}
@@ -12,20 +12,7 @@ use Rattle.refusal.specs.declared.Refusal.{Refusal}
 use Rattle.refusal.specs.declared.Refusal.the-variants.{TruncatedPolicy, BadSubformula}
 use Rattle.policy.specs.declared.Answer.{Answer}
 use Rattle.policy.specs.declared.Answer.the-variants.{Accepted, Refused}
-use Rattle.policy.specs.Format.{
-  check,
-  andThen,
-  countOf,
-  rulesUpTo,
-  fieldsAt,
-  goodLine,
-  headingAnswer,
-  offset,
-  lineAnswer,
-  linesAnswer,
-  closingAnswer,
-  answerOf,
-}
+use Rattle.policy.specs.Format.{check, andThen, countOf, rulesUpTo, fieldsAt, goodLine, headingAnswer, offset, lineAnswer, linesAnswer, closingAnswer, answerOf}
 
 pub passes : {b : Bool} (r : Refusal) (next : Answer) → b ≡ true → check b r next ≡ next
 passes r next e = rw e

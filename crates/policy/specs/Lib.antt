@@ -1,6 +1,9 @@
 -- The policy: its format, and the laws of what is read.
 pub mod Answers
+pub mod Causes
 pub mod Format
 pub mod Laws
 pub mod Lines
 pub mod Proper
+pub mod Ranges
+pub mod Table

@@ -1,20 +1,17 @@
 -- What is true of every policy that is read, and the exact cause of each refusal of 1 to 4.
-use Prim.Native.Nat.{ℕ, zero, suc, _+_, _≤_, _<_}
+use Prim.Native.Nat.{ℕ, suc, _≤_, _<_}
 use mathlib.Core.Path.{_≡_}
-use mathlib.Core.Bool.{Bool, true, false}
-use mathlib.Core.Logic.{_⊎_, _↔_}
+use mathlib.Core.Bool.{true, false}
+use mathlib.Core.Logic.{_↔_}
 use mathlib.Core.List.{List}
 use lib.ListN.{getD, length}
 use Rattle.encoding.specs.Fields.{wordOf}
 use Rattle.mtl.specs.declared.Formula.{Formula}
 use Rattle.mtl.specs.Syntax.{Earlier, Proposes, Bounded}
-use Rattle.refusal.specs.declared.Refusal.{Refusal}
 use Rattle.refusal.specs.declared.Refusal.the-variants.{TruncatedPolicy, BadHeading, BadSubformula, RuleCount}
 use Rattle.policy.specs.declared.Policy.{Policy}
-use Rattle.policy.specs.declared.Subformula.{Subformula}
-use Rattle.policy.specs.declared.Answer.{Answer}
 use Rattle.policy.specs.declared.Answer.the-variants.{Accepted, Refused}
-use Rattle.policy.specs.Format.{noLine, ruleLines, goodLine, fieldsAt, countOf, offset, rulesUpTo, answerOf, policyOf}
+use Rattle.policy.specs.Format.{noLine, ruleLines, goodLine, fieldsAt, countOf, offset, rulesUpTo, answerOf}
 
 -- the meaning of line i
 abbrev pub formulaAt : Policy → ℕ → Formula

@@ -8,12 +8,12 @@ use encoding::word;
 use mtl::Formula;
 use refusal::Refusal;
 ghost use mathlib.Core.Path.{_≡_};
-ghost use Prim.Native.Nat.{ℕ, suc, _+_, _*_, _/_, _%_, _≤_, _<_};
+ghost use Prim.Native.Nat.{_+_, _/_, _%_, _≤_, _<_};
 ghost use mathlib.Core.Bool.{true};
 ghost use lib.ListN.{length, getD};
 ghost use lib.Dec.{eqb, leb};
 ghost use Rattle.encoding.specs.Fields.{size, written};
-ghost use Rattle.policy.specs.Format.{lineLength, fieldsAt, allowed, operandsGood, goodLine, formulaOf, subformulaOf, within, headingAnswer, sizesOf, offset, linesAnswer, subformulasOf, rulesUpTo, blank, withAnswer, closingAnswer, decodeOf};
+ghost use Rattle.policy.specs.Format.{lineLength, fieldsAt, allowed, operandsGood, goodLine, formulaOf, subformulaOf, within, headingAnswer, sizesOf, blank, withAnswer, closingAnswer, decodeOf};
 ghost use Rattle.policy.specs.Lines.{Scans};
 
 // How many propositions (01: marks), components (01: stations) and minutes a trace has.

@@ -36,6 +36,10 @@ same-place n r p r′ p′ h k e = sym (place-of n r p h) ∙ ap (λ (x : ℕ). 
 pub in-grid : (m n r p : ℕ) → r < m → p < n → r * n + p < m * n
 in-grid m n r p h k = omega (arith, mul-le-mul-right n h, suc-mul r n)
 
+-- a row of the grid ends in it
+pub next-row : (m n r : ℕ) → r < m → r * n + n ≤ m * n
+next-row m n r h = omega (arith, mul-le-mul-right n h, suc-mul r n)
+
 -- every place of the grid is of some row
 pub row-in : (m n i : ℕ) → i < m * n → 0 < n → i / n < m
 row-in m n i h k = div-lt-iff-lt-mul k .1 h

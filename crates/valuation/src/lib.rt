@@ -1,1 +1,390 @@
 // The valuation (01: the work sheet) and the verdicts (01: the verdict sheet).
+// A row is worked into an array of its own from the rows of the subformulas that it names, a constant time a minute whatever the interval.
+use mtl::Formula;
+use policy::Policy;
+use policy::Sizes;
+ghost use mathlib.Core.Path.{_≡_};
+ghost use mathlib.Core.List.{_++_};
+ghost use Prim.Native.Nat.{ℕ, _+_, _-_, _*_, _≤_, _<_};
+ghost use lib.ListN.{length, getD, take, drop};
+ghost use lib.Dec.{leb};
+ghost use Rattle.kleene.specs.Truth.{Truth, codeOf, valueOf, true3, not3, or3};
+ghost use Rattle.kleene.specs.Rank.{rankOf};
+ghost use Rattle.rows.specs.Over.{Over};
+ghost use Rattle.mtl.specs.Algebra.{three};
+ghost use Rattle.mtl.specs.Reading.{World, point, since, until, meaning};
+ghost use Rattle.knowledge.specs.Knowledge.{Knowledge, fact, world};
+ghost use Rattle.policy.specs.Proper.{Proper};
+ghost use Rattle.valuation.specs.Sheets.{valuation-of, verdicts-of, standing};
+ghost use Rattle.valuation.specs.Rows.{Shows, Row, run, Rows, Points, Workable};
+ghost use Rattle.valuation.specs.Verdicts.{verdict-code, one-stands, VerdictRow};
+ghost use Rattle.valuation.specs.Indexes.{begun, broken, moved, far, Last, First, Lasts, Firsts};
+
+// The nearest minute at which a truth is surely so, and at which it may be so.
+pub struct Nearest {
+    pub sure: usize,
+    pub may: usize,
+}
+
+// The nearest minutes once a minute of this rank is passed, whose index is here.
+fn note(nearest: Nearest, here: usize, rank: u8) -> Nearest
+    ensures { λ r. ⌜ (r .sure ≡ moved 2 rank here (nearest .sure)) × (r .may ≡ moved 1 rank here (nearest .may)) ⌝ }
+{
+    if 2 <= rank {
+        return Nearest {
+            sure: here,
+            may: here,
+        };
+    }
+    if 1 <= rank {
+        return Nearest {
+            sure: nearest.sure,
+            may: here,
+        };
+    }
+    nearest
+}
+
+// The code of a value that is surely true, or may be true.
+fn code(sure: bool, may: bool) -> u8
+    ensures { λ r. ⌜ ((x : Truth) → sure ≡ leb 2 (rankOf x) → may ≡ leb 1 (rankOf x) → r ≡ codeOf x) ⌝ }
+{
+    if sure {
+        return 1;
+    }
+    if may {
+        return 0;
+    }
+    2
+}
+
+// ---- since
+
+// Passes the begin that comes into the interval at minute t, if there is one.
+fn since_begin(points: &[u8], right: &[u8], lower: usize, t: usize, begins: Nearest) -> Nearest
+    requires { ⌜ (t < length (now points)) × (length (now right) ≡ length (now points)) ⌝ }
+    ensures { λ r. ⌜ ((e β : ℕ → Truth) → Shows (now (points .entry)) e → Shows (now (right .entry)) β → Lasts (begun e β) (t - lower) begins → Lasts (begun e β) (t + 1 - lower) r) ⌝ }
+{
+    if t < lower {
+        return begins;
+    }
+    let j = t - lower;
+    note(begins, j + 1, kleene::both(points[j], right[j]))
+}
+
+// t - upper, and 0 where it would lie before minute 0.
+fn minus(t: usize, upper: usize) -> usize
+    ensures { λ r. ⌜ r ≡ t - upper ⌝ }
+{
+    if t < upper { 0 } else { t - upper }
+}
+
+// Does the since reach a threshold: is the last begin that does in the interval, which starts here, with no break after it?
+fn since_reaches(start: usize, begin: usize, stop: usize) -> bool
+    ensures { λ r. ⌜ ((w : World Truth) (α β : ℕ → Truth) (lower upper t k : ℕ) → start ≡ t - upper → 0 < k → k ≤ 2 → Last k (begun (point three w) β) (t + 1 - lower) begin → Last (3 - k) (broken (point three w) α) (t + 1) stop → r ≡ leb k (rankOf (since three w α β lower upper t))) ⌝ }
+{
+    if begin <= start {
+        return false;
+    }
+    if begin < stop {
+        return false;
+    }
+    true
+}
+
+// The value at a minute that is passed, whose interval starts here.
+fn since_value(start: usize, begins: Nearest, breaks: Nearest) -> u8
+    ensures { λ r. ⌜ ((w : World Truth) (α β : ℕ → Truth) (lower upper t : ℕ) → start ≡ t - upper → Lasts (begun (point three w) β) (t + 1 - lower) begins → Lasts (broken (point three w) α) (t + 1) breaks → r ≡ codeOf (since three w α β lower upper t)) ⌝ }
+{
+    let sure = since_reaches(start, begins.sure, breaks.may);
+    let may = since_reaches(start, begins.may, breaks.sure);
+    code(sure, may)
+}
+
+// The row of `left since right`: going up, the last begins up to t - lower and the last breaks up to t decide the value at t.
+pub fn since_row(points: &[u8], left: &[u8], right: &[u8], lower: usize, upper: usize) -> [u8; 1024]
+    requires { ⌜ (length (now points) ≤ 1024) × (length (now left) ≡ length (now points)) × (length (now right) ≡ length (now points)) ⌝ }
+    ensures { λ r. ⌜ ((w : World Truth) (α β : ℕ → Truth) → Shows (now (points .entry)) (point three w) → Shows (now (left .entry)) α → Shows (now (right .entry)) β → Row (length (now (points .entry))) (since three w α β lower upper) r) ⌝ }
+{
+    let mut row = [0u8; 1024];
+    let mut begins = Nearest { sure: 0, may: 0 };
+    let mut breaks = Nearest { sure: 0, may: 0 };
+    let mut t: usize = 0;
+    while t < points.len() {
+        begins = since_begin(points, right, lower, t, begins);
+        breaks = note(breaks, t + 1, kleene::apart(points[t], left[t]));
+        row[t] = since_value(minus(t, upper), begins, breaks);
+        t += 1;
+    }
+    row
+}
+
+// ---- until
+
+// The rank of the begin at minute j, which may lie past the end.
+fn until_begin(points: &[u8], right: &[u8], j: usize) -> u8
+    requires { ⌜ length (now right) ≡ length (now points) ⌝ }
+    ensures { λ r. ⌜ ((e β : ℕ → Truth) → Shows (now (points .entry)) e → Shows (now (right .entry)) β → r ≡ begun e β j) ⌝ }
+{
+    if j < points.len() {
+        return kleene::both(points[j], right[j]);
+    }
+    1
+}
+
+// Does the until reach a threshold: is the first begin that does in the interval, which ends here, with no break before it?
+fn until_reaches(end: usize, begin: usize, stop: usize) -> bool
+    ensures { λ r. ⌜ ((w : World Truth) (α β : ℕ → Truth) (lower upper t k : ℕ) → end ≡ t + upper → end < far → 0 < k → k ≤ 2 → First k (begun (point three w) β) (t + lower) begin → First (3 - k) (broken (point three w) α) t stop → r ≡ leb k (rankOf (until three w α β lower upper t))) ⌝ }
+{
+    if end < begin {
+        return false;
+    }
+    if stop < begin {
+        return false;
+    }
+    true
+}
+
+// The value at a minute that is passed, whose interval ends here.
+fn until_value(end: usize, begins: Nearest, breaks: Nearest) -> u8
+    ensures { λ r. ⌜ ((w : World Truth) (α β : ℕ → Truth) (lower upper t : ℕ) → end ≡ t + upper → end < far → Firsts (begun (point three w) β) (t + lower) begins → Firsts (broken (point three w) α) t breaks → r ≡ codeOf (until three w α β lower upper t)) ⌝ }
+{
+    let sure = until_reaches(end, begins.sure, breaks.may);
+    let may = until_reaches(end, begins.may, breaks.sure);
+    code(sure, may)
+}
+
+// No minute of the window is this far.
+const FAR: usize = 4096;
+
+// The row of `left until right`: going down, the first begins from t + lower on and the first breaks from t on decide the value at t. From
+// the end on everything is unknown, so that there a begin and a break may be, and none is sure.
+pub fn until_row(points: &[u8], left: &[u8], right: &[u8], lower: usize, upper: usize) -> [u8; 1024]
+    requires { ⌜ (length (now points) ≤ 1024) × (length (now left) ≡ length (now points)) × (length (now right) ≡ length (now points)) × (lower ≤ 1023) × (upper ≤ 1023) ⌝ }
+    ensures { λ r. ⌜ ((w : World Truth) (α β : ℕ → Truth) → Shows (now (points .entry)) (point three w) → Shows (now (left .entry)) α → Shows (now (right .entry)) β → Row (length (now (points .entry))) (until three w α β lower upper) r) ⌝ }
+{
+    let mut row = [0u8; 1024];
+    let mut t = points.len();
+    let mut begins = Nearest {
+        sure: FAR,
+        may: t + lower,
+    };
+    let mut breaks = Nearest { sure: FAR, may: t };
+    while 0 < t {
+        t -= 1;
+        let j = t + lower;
+        begins = note(begins, j, until_begin(points, right, j));
+        breaks = note(breaks, t, kleene::apart(points[t], left[t]));
+        row[t] = until_value(t + upper, begins, breaks);
+    }
+    row
+}
+
+// ---- the other rows
+
+pub fn true_row() -> [u8; 1024]
+    ensures { λ r. ⌜ ((m : ℕ) → m ≤ 1024 → Row m (λ t. true3) r) ⌝ }
+{
+    [1u8; 1024]
+}
+
+// "A mark is its fact, else unknown": from the minute's two words, which propositions are known and their values.
+fn fact_code(known: u32, values: u32, proposition: u8) -> u8
+    requires { ⌜ proposition < 32 ⌝ }
+    ensures { λ r. ⌜ ((k : Knowledge) (t : ℕ) → known ≡ getD (k .facts) (2 * t) 0 → values ≡ getD (k .facts) (2 * t + 1) 0 → r ≡ codeOf (fact k proposition t)) ⌝ }
+{
+    let place = proposition as u32;
+    if (known >> place) % 2 == 0 {
+        return 0;
+    }
+    if (values >> place) % 2 == 0 {
+        return 2;
+    }
+    1
+}
+
+pub fn proposition_row(facts: &[u32], proposition: u8, minutes: usize) -> [u8; 1024]
+    requires { ⌜ (minutes ≤ 1024) × (length (now facts) ≡ 2 * minutes) × (proposition < 32) ⌝ }
+    ensures { λ r. ⌜ ((k : Knowledge) → k .facts ≡ now (facts .entry) → Row minutes (fact k proposition) r) ⌝ }
+{
+    let mut row = [0u8; 1024];
+    let mut t: usize = 0;
+    while t < minutes {
+        let at = 2 * t;
+        row[t] = fact_code(facts[at], facts[at + 1], proposition);
+        t += 1;
+    }
+    row
+}
+
+pub fn not_row(operand: &[u8]) -> [u8; 1024]
+    requires { ⌜ length (now operand) ≤ 1024 ⌝ }
+    ensures { λ r. ⌜ ((f : ℕ → Truth) → Shows (now (operand .entry)) f → Row (length (now (operand .entry))) (λ t. not3 (f t)) r) ⌝ }
+{
+    let mut row = [0u8; 1024];
+    let mut t: usize = 0;
+    while t < operand.len() {
+        row[t] = kleene::not(operand[t]);
+        t += 1;
+    }
+    row
+}
+
+pub fn or_row(left: &[u8], right: &[u8]) -> [u8; 1024]
+    requires { ⌜ (length (now left) ≤ 1024) × (length (now right) ≡ length (now left)) ⌝ }
+    ensures { λ r. ⌜ ((f g : ℕ → Truth) → Shows (now (left .entry)) f → Shows (now (right .entry)) g → Row (length (now (left .entry))) (λ t. or3 (f t) (g t)) r) ⌝ }
+{
+    let mut row = [0u8; 1024];
+    let mut t: usize = 0;
+    while t < left.len() {
+        row[t] = kleene::or(left[t], right[t]);
+        t += 1;
+    }
+    row
+}
+
+// ---- the work sheet
+
+// Row i of those that stand one after another.
+fn run_of(rows: &[u8], i: u8, minutes: usize) -> &[u8]
+    requires { ⌜ i * minutes + minutes ≤ length (now rows) ⌝ }
+    ensures { λ r. ⌜ now r ≡ run minutes (now (rows .entry)) i ⌝ }
+{
+    let at = i as usize * minutes;
+    let end = at + minutes;
+    &rows[at..end]
+}
+
+// The row of a subformula, from the rows of earlier ones.
+fn row_of(
+    sizes: Sizes,
+    formula: Formula,
+    points: &[u8],
+    facts: &[u32],
+    earlier: &[u8],
+) -> [u8; 1024]
+    requires { ⌜ Workable sizes formula (now points) (now facts) (now earlier) ⌝ }
+    ensures { λ r. ⌜ ((k : Knowledge) (v : ℕ → ℕ → Truth) → k .facts ≡ now (facts .entry) → Points sizes k (now (points .entry)) → Rows (sizes .minutes) (now (earlier .entry)) v → Row (sizes .minutes) (meaning three (world sizes k) v formula) r) ⌝ }
+{
+    let minutes = sizes.minutes;
+    match formula {
+        Formula::True => true_row(),
+        Formula::Proposition(proposition) => proposition_row(facts, proposition, minutes),
+        Formula::Not(i) => not_row(run_of(earlier, i, minutes)),
+        Formula::Or(i, j) => or_row(run_of(earlier, i, minutes), run_of(earlier, j, minutes)),
+        Formula::Since {
+            left,
+            right,
+            lower,
+            upper,
+        } => since_row(
+            &points[0..minutes],
+            run_of(earlier, left, minutes),
+            run_of(earlier, right, minutes),
+            lower as usize,
+            upper as usize,
+        ),
+        Formula::Until {
+            left,
+            right,
+            lower,
+            upper,
+        } => until_row(
+            &points[0..minutes],
+            run_of(earlier, left, minutes),
+            run_of(earlier, right, minutes),
+            lower as usize,
+            upper as usize,
+        ),
+    }
+}
+
+// Writes a row that was worked over a run of the work sheet.
+fn put_row(run: &mut [u8], row: &[u8; 1024])
+    requires { ⌜ length (now run) ≤ 1024 ⌝ }
+    ensures { λ _. ⌜ Over (λ t. getD (now (row .entry)) t 0) 0 (length (now (run .entry))) (now (run .entry)) (now (run .exit)) ⌝ }
+{
+    let mut t: usize = 0;
+    while t < run.len() {
+        run[t] = row[t];
+        t += 1;
+    }
+}
+
+// Works the rows of all subformulas, one after another, from the time points and the facts. The rest of a longer list stays as it was.
+pub fn evaluate(policy: Policy, points: &[u8; 1024], facts: &[u32], valuation: &mut [u8])
+    requires { ⌜ (Proper policy) × (length (now points) ≡ 1024) × (length (now facts) ≡ 2 * policy .sizes .minutes) × (policy .count * policy .sizes .minutes ≤ length (now valuation)) ⌝ }
+    ensures { λ _. ⌜ ((k : Knowledge) → k .facts ≡ now (facts .entry) → Points (policy .sizes) k (now (points .entry)) → now (valuation .exit) ≡ valuation-of policy k ++ drop (policy .count * policy .sizes .minutes) (now (valuation .entry))) ⌝ }
+{
+    let sizes = policy.sizes;
+    let minutes = sizes.minutes;
+    let count = policy.count;
+    let mut at: usize = 0;
+    let mut i: usize = 0;
+    while i < count {
+        let line = policy.subformulas[i];
+        let formula = line.formula;
+        let end = at + minutes;
+        let row = row_of(sizes, formula, points, facts, &valuation[0..at]);
+        put_row(&mut valuation[at..end], &row);
+        at = end;
+        i += 1;
+    }
+}
+
+// ---- the verdict sheet
+
+// The verdict: the value where the minute is known to be a time point, and blank elsewhere.
+fn verdict_code(point: u8, value: u8) -> u8
+    ensures { λ r. ⌜ r ≡ verdict-code point value ⌝ }
+{
+    if point == 1 { value } else { 0 }
+}
+
+// How many verdicts one cell holds: a blank is none.
+fn stands(verdict: u8) -> usize
+    ensures { λ r. ⌜ r ≡ one-stands verdict ⌝ }
+{
+    if verdict == 0 { 0 } else { 1 }
+}
+
+// Writes the verdicts of one rule, whose row is given, and answers how many stand.
+fn verdict_row(points: &[u8], row: &[u8], verdicts: &mut [u8]) -> usize
+    requires { ⌜ (length (now row) ≡ length (now verdicts)) × (length (now verdicts) ≤ length (now points)) ⌝ }
+    ensures { λ r. ⌜ VerdictRow (now (points .entry)) (now (row .entry)) (now (verdicts .entry)) (now (verdicts .exit)) r ⌝ }
+{
+    let mut total: usize = 0;
+    let mut t: usize = 0;
+    while t < verdicts.len() {
+        let verdict = verdict_code(points[t], row[t]);
+        verdicts[t] = verdict;
+        total += stands(verdict);
+        t += 1;
+    }
+    total
+}
+
+// Writes the verdicts of all rules, one after another, and answers how many stand. The rest of a longer list stays as it was.
+pub fn conclude(policy: Policy, points: &[u8; 1024], valuation: &[u8], verdicts: &mut [u8]) -> usize
+    requires { ⌜ (Proper policy) × (length (now points) ≡ 1024) × (policy .count * policy .sizes .minutes ≤ length (now valuation)) × (policy .rules * policy .sizes .minutes ≤ length (now verdicts)) ⌝ }
+    ensures { λ r. ⌜ ((k : Knowledge) → Points (policy .sizes) k (now (points .entry)) → take (policy .count * policy .sizes .minutes) (now (valuation .entry)) ≡ valuation-of policy k → (now (verdicts .exit) ≡ verdicts-of policy k ++ drop (policy .rules * policy .sizes .minutes) (now (verdicts .entry))) × (r ≡ standing (verdicts-of policy k))) ⌝ }
+{
+    let sizes = policy.sizes;
+    let minutes = sizes.minutes;
+    let count = policy.count;
+    let mut total: usize = 0;
+    let mut at: usize = 0;
+    let mut i: usize = 0;
+    while i < count {
+        let line = policy.subformulas[i];
+        if line.rule {
+            let from = i * minutes;
+            let to = from + minutes;
+            let end = at + minutes;
+            total += verdict_row(points, &valuation[from..to], &mut verdicts[at..end]);
+            at = end;
+        }
+        i += 1;
+    }
+    total
+}

@@ -1,48 +1,35 @@
+-- Each way out is one check of `answerOf`, with the checks before it passed. Assumes nothing.
 use Rattle.policy.proofs.Decoding.{refuses}
 use Rattle.policy.specs.Answers.{no-heading, after-length}
 use mathlib.Core.Path.{sym, _∙_}
 use borrow.Author.Needs.{needs}
 use Rattle.policy.proofs.decode.Statement.{statement}
 use Rattle.policy.proofs.decode.Tie as tie
-use Rattle.policy.proofs.decode.Reads as reads
-use Rattle.policy.proofs.decode.Lts as lts
-use Rattle.policy.proofs.decode_lines.Reads as decode-lines-reads
-use Rattle.policy.proofs.heading_answer.Reads as heading-answer-reads
-use Rattle.policy.proofs.refused.Reads as refused-reads
 
--- src/lib.rt:394:9
 refused-requires : tie.Need-refused-requires
 refused-requires c κs = search needs
 
--- src/lib.rt:394:9
 returns : tie.Need-returns
 returns c = refuses _ _ _ (no-heading _ (c .before .if1 .taken)) (c .refused .ensures)
 
--- src/lib.rt:396:9
 heading-answer-requires : tie.Need-heading-answer-requires
 heading-answer-requires c κs = search needs
 
--- src/lib.rt:398:25
 enum-known-heading : tie.Need-enum-known-heading
 enum-known-heading c = search needs
 
--- src/lib.rt:398:31
 refused-requires-2 : tie.Need-refused-requires-2
 refused-requires-2 c κs = search needs
 
--- src/lib.rt:399:29
 enum-told : tie.Need-enum-told
 enum-told c = search needs
 
--- src/lib.rt:399:29
 decode-lines-requires : tie.Need-decode-lines-requires
 decode-lines-requires c κs = (c .before .before .before .if1 .left, sym (c .before .before .heading-answer .ensures) ∙ c .enum-told .given .1)
 
--- src/lib.rt:389:1
 returns-2 : tie.Need-returns-2
 returns-2 c = refuses _ _ _ (after-length _ (c .before .before .before .before .before .if1 .left) (sym (c .before .before .before .before .heading-answer .ensures) ∙ c .before .before .heading .given .1)) (c .refused2 .ensures)
 
--- src/lib.rt:389:1
 returns-3 : tie.Need-returns-3
 returns-3 c = search needs
 

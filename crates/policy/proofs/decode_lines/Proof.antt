@@ -1,76 +1,64 @@
+-- The lines answer, and then the closing checks; where both accept, the fields are those of `policyOf`. Assumes nothing.
 use Rattle.policy.proofs.Decoding.{refuses, closes, accepts}
 use Rattle.policy.specs.Answers.{after-heading}
-use Rattle.policy.specs.Laws.{headed}
+use Rattle.policy.specs.Causes.{headed}
 use native.Mathlib.Omega.{arith}
-use mathlib.Core.Path.{_≡_, refl, sym, ap, _∙_}
+use mathlib.Core.Path.{sym, _∙_}
 use borrow.Author.Needs.{needs}
 use Rattle.policy.proofs.decode_lines.Statement.{statement}
 use Rattle.policy.proofs.decode_lines.Tie as tie
-use Rattle.policy.proofs.decode_lines.Reads as reads
-use Rattle.policy.proofs.decode_lines.Lts as lts
-use Rattle.policy.proofs.closing_answer.Reads as closing-answer-reads
-use Rattle.policy.proofs.refused.Reads as refused-reads
-use Rattle.policy.proofs.scan.Reads as scan-reads
-use Rattle.policy.proofs.sizes_of.Reads as sizes-of-reads
 
--- src/lib.rt:362:17
 shared-slice-read-count : tie.Need-shared-slice-read-count
 shared-slice-read-count c = search needs
 
--- src/lib.rt:362:17
 cast-count : tie.Need-cast-count
 cast-count c = omega (arith, c .shared-slice-known2 .given 4)
 
--- src/lib.rt:363:9
 scan-requires : tie.Need-scan-requires
 scan-requires c κs = let h = c .before .before .pre in (h .0, headed _ (h .0) (h .1) .count .high)
 
--- src/lib.rt:369:25
 enum-known-answer : tie.Need-enum-known-answer
 enum-known-answer c = search needs
 
--- src/lib.rt:369:31
 refused-requires : tie.Need-refused-requires
 refused-requires c κs = search needs
 
--- src/lib.rt:371:42
 enum-told : tie.Need-enum-told
 enum-told c = search needs
 
--- src/lib.rt:371:17
 closing-answer-requires : tie.Need-closing-answer-requires
 closing-answer-requires c κs = search needs
 
--- src/lib.rt:373:33
 enum-known-closing : tie.Need-enum-known-closing
 enum-known-closing c = search needs
 
--- src/lib.rt:373:39
 refused-requires-2 : tie.Need-refused-requires-2
 refused-requires-2 c κs = search needs
 
--- src/lib.rt:375:29
 enum-told-2 : tie.Need-enum-told-2
 enum-told-2 c = search needs
 
--- src/lib.rt:377:32
 sizes-of-requires : tie.Need-sizes-of-requires
 sizes-of-requires c κs = search needs
 
--- src/lib.rt:358:1
 returns : tie.Need-returns
-returns c = refuses _ _ _ (after-heading _ (c .before .before .before .before .before .before .before .before .pre .0) (c .before .before .before .before .before .before .before .before .pre .1) (sym (c .before .before .before .before .before .scan .ensures .answer) ∙ c .before .before .answer .given .1)) (c .refused .ensures)
+returns c = let lines = c .before .before .before .before .before in
+    let h = lines .before .before .before .pre in
+    refuses _ _ _ (after-heading _ (h .0) (h .1) (sym (lines .scan .ensures .answer) ∙ c .before .before .answer .given .1)) (c .refused .ensures)
 
--- src/lib.rt:358:1
 returns-2 : tie.Need-returns-2
-returns-2 c = let e = c .before .before .before .before .before .enum-told .given .1 in
-    refuses _ _ _ (closes _ _ (c .before .before .before .before .before .before .before .before .before .before .before .pre) (c .before .before .before .before .before .before .before .before .scan .ensures) e (sym (c .before .before .closing .given .1) ∙ c .before .before .before .before .closing-answer .ensures)) (c .refused2 .ensures)
+returns-2 c = let told = c .before .before .before .before .before in
+    let lines = told .before .before .before in
+    let closing = sym (c .before .before .closing .given .1) ∙ c .before .before .before .before .closing-answer .ensures in
+    refuses _ _ _ (closes _ _ (lines .before .before .before .pre) (lines .scan .ensures) (told .enum-told .given .1) closing) (c .refused2 .ensures)
 
--- src/lib.rt:358:1
 returns-3 : tie.Need-returns-3
-returns-3 c = let l = c .before .before .before .before .before .before .before .scan .ensures in
-    let e = c .before .before .before .before .enum-told .given .1 in
-    accepts _ _ _ _ (closes _ _ (c .before .before .before .before .before .before .before .before .before .before .pre) l e (sym (c .before .enum-told2 .given .1) ∙ c .before .before .before .closing-answer .ensures)) (c .sizes-of .ensures) (l .rules e) (l .subformulas e)
+returns-3 c = let told = c .before .before .before .before in
+    let lines = told .before .before .before in
+    let l = lines .scan .ensures in
+    let e = told .enum-told .given .1 in
+    let closing = sym (c .before .enum-told2 .given .1) ∙ c .before .before .before .closing-answer .ensures in
+    accepts _ _ _ _ (closes _ _ (lines .before .before .before .pre) l e closing) (c .sizes-of .ensures) (l .rules e) (l .subformulas e)
 
 pub decode-lines-spec : {M : Type 1} → statement M
 decode-lines-spec =

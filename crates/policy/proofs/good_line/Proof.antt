@@ -1,3 +1,4 @@
+-- The tests are the conjuncts of `goodLine`, in its order. Assumes nothing.
 use lib.Dec.{ltb, leb}
 use mathlib.Core.Bool.{_&&_}
 use borrow.Author.Needs.{needs}
@@ -6,61 +7,43 @@ use Rattle.policy.specs.Format.{goodLine}
 use mathlib.Core.Path.{refl}
 use Rattle.policy.proofs.good_line.Statement.{statement}
 use Rattle.policy.proofs.good_line.Tie as tie
-use Rattle.policy.proofs.good_line.Reads as reads
-use Rattle.policy.proofs.good_line.Lts as lts
-use Rattle.policy.proofs.field_good.Reads as field-good-reads
-use Rattle.policy.proofs.is_allowed.Reads as is-allowed-reads
-use Rattle.policy.proofs.operands_good.Reads as operands-good-reads
 
--- src/lib.rt:166:35
 cast-field-good : tie.Need-cast-field-good
 cast-field-good c = search needs
 
--- src/lib.rt:166:9
 field-good-requires : tie.Need-field-good-requires
 field-good-requires c κs = search needs
 
--- src/lib.rt:167:36
 cast-field-good-2 : tie.Need-cast-field-good-2
 cast-field-good-2 c = search needs
 
--- src/lib.rt:167:9
 field-good-requires-2 : tie.Need-field-good-requires-2
 field-good-requires-2 c κs = search needs
 
--- src/lib.rt:168:37
 cast-field-good-3 : tie.Need-cast-field-good-3
 cast-field-good-3 c = search needs
 
--- src/lib.rt:168:9
 field-good-requires-3 : tie.Need-field-good-requires-3
 field-good-requires-3 c κs = search needs
 
--- src/lib.rt:169:36
 cast-field-good-4 : tie.Need-cast-field-good-4
 cast-field-good-4 c = search needs
 
--- src/lib.rt:169:9
 field-good-requires-4 : tie.Need-field-good-requires-4
 field-good-requires-4 c κs = search needs
 
--- src/lib.rt:170:37
 cast-field-good-5 : tie.Need-cast-field-good-5
 cast-field-good-5 c = search needs
 
--- src/lib.rt:170:9
 field-good-requires-5 : tie.Need-field-good-requires-5
 field-good-requires-5 c κs = search needs
 
--- src/lib.rt:171:9
 is-allowed-requires : tie.Need-is-allowed-requires
 is-allowed-requires c κs = search needs
 
--- src/lib.rt:172:9
 operands-good-requires : tie.Need-operands-good-requires
 operands-good-requires c κs = search needs
 
--- src/lib.rt:162:1
 returns : tie.Need-returns
 unfolding goodLine
 returns c = let f = c .before .before .before .before .before .before .before .before .before .before .before .before .before .before .args .fields in

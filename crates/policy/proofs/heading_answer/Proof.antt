@@ -1,95 +1,98 @@
-use mathlib.Core.Path.{sym, _∙_}
+use Rattle.policy.proofs.Line.{held, failed}
+-- The tests are the checks of `headingAnswer`, in its order. Assumes nothing.
 use native.Mathlib.Omega.{arith}
-use borrow.Author.Tests.{not-true, not-false}
 use Rattle.policy.specs.Format.{headingAnswer}
 use borrow.Author.Needs.{needs}
 use Rattle.policy.proofs.heading_answer.Statement.{statement}
 use Rattle.policy.proofs.heading_answer.Tie as tie
-use Rattle.policy.proofs.heading_answer.Reads as reads
-use Rattle.policy.proofs.heading_answer.Lts as lts
-use Rattle.encoding.proofs.word.Reads as word-reads
-use Rattle.policy.proofs.in_range.Reads as in-range-reads
 
--- src/lib.rt:216:25
 shared-slice-read-in-range : tie.Need-shared-slice-read-in-range
 shared-slice-read-in-range c = search needs
 
--- src/lib.rt:216:25
 cast-in-range : tie.Need-cast-in-range
 cast-in-range c = omega (arith, c .shared-slice-known2 .given 0)
 
--- src/lib.rt:216:9
 in-range-requires : tie.Need-in-range-requires
 in-range-requires c κs = search needs
 
--- src/lib.rt:217:9
 returns : tie.Need-returns
 unfolding headingAnswer
-returns c = rw (sym (c .before .in-range .ensures) ∙ not-true _ (c .if1 .taken))
+returns c = rw (failed (c .before .in-range .ensures) (c .if1 .taken))
 
--- src/lib.rt:219:25
 shared-slice-read-in-range-2 : tie.Need-shared-slice-read-in-range-2
 shared-slice-read-in-range-2 c = search needs
 
--- src/lib.rt:219:25
 cast-in-range-2 : tie.Need-cast-in-range-2
 cast-in-range-2 c = omega (arith, c .shared-slice-known3 .given 1)
 
--- src/lib.rt:219:9
 in-range-requires-2 : tie.Need-in-range-requires-2
 in-range-requires-2 c κs = search needs
 
--- src/lib.rt:220:9
 returns-2 : tie.Need-returns-2
 unfolding headingAnswer
-returns-2 c = rw (sym (c .before .before .before .before .in-range .ensures) ∙ not-false _ (c .before .before .before .if1 .left), sym (c .before .in-range2 .ensures) ∙ not-true _ (c .if2 .taken))
+returns-2 c = let one = c .before .before .before in
+    rw (held (one .before .in-range .ensures) (one .if1 .left), failed (c .before .in-range2 .ensures) (c .if2 .taken))
 
--- src/lib.rt:222:32
 shared-slice-read-word : tie.Need-shared-slice-read-word
 shared-slice-read-word c = search needs
 
--- src/lib.rt:222:38
 shared-slice-read-word-2 : tie.Need-shared-slice-read-word-2
 shared-slice-read-word-2 c = search needs
 
--- src/lib.rt:222:27
 word-requires : tie.Need-word-requires
 word-requires c κs = search needs
 
--- src/lib.rt:222:27
 cast-in-range-3 : tie.Need-cast-in-range-3
 cast-in-range-3 c = search needs
 
--- src/lib.rt:222:9
 in-range-requires-3 : tie.Need-in-range-requires-3
 in-range-requires-3 c κs = search needs
 
--- src/lib.rt:223:9
 returns-3 : tie.Need-returns-3
 unfolding headingAnswer
-returns-3 c = rw (sym (c .before .before .before .before .before .before .before .before .before .in-range .ensures) ∙ not-false _ (c .before .before .before .before .before .before .before .before .if1 .left), sym (c .before .before .before .before .before .before .in-range2 .ensures) ∙ not-false _ (c .before .before .before .before .before .if2 .left), ← (c .before .before .word .ensures), sym (c .before .in-range3 .ensures) ∙ not-true _ (c .if3 .taken))
+returns-3 c = let two = c .before .before .before .before .before in
+    let one = two .before .before .before in
+    rw (
+      held (one .before .in-range .ensures) (one .if1 .left),
+      held (two .before .in-range2 .ensures) (two .if2 .left),
+      ← (c .before .before .word .ensures),
+      failed (c .before .in-range3 .ensures) (c .if3 .taken),
+    )
 
--- src/lib.rt:225:25
 shared-slice-read-in-range-3 : tie.Need-shared-slice-read-in-range-3
 shared-slice-read-in-range-3 c = search needs
 
--- src/lib.rt:225:25
 cast-in-range-4 : tie.Need-cast-in-range-4
 cast-in-range-4 c = omega (arith, c .shared-slice-known6 .given 4)
 
--- src/lib.rt:225:9
 in-range-requires-4 : tie.Need-in-range-requires-4
 in-range-requires-4 c κs = search needs
 
--- src/lib.rt:226:9
 returns-4 : tie.Need-returns-4
 unfolding headingAnswer
-returns-4 c = rw (sym (c .before .before .before .before .before .before .before .before .before .before .before .before .in-range .ensures) ∙ not-false _ (c .before .before .before .before .before .before .before .before .before .before .before .if1 .left), sym (c .before .before .before .before .before .before .before .before .before .in-range2 .ensures) ∙ not-false _ (c .before .before .before .before .before .before .before .before .if2 .left), ← (c .before .before .before .before .before .word .ensures), sym (c .before .before .before .before .in-range3 .ensures) ∙ not-false _ (c .before .before .before .if3 .left), sym (c .before .in-range4 .ensures) ∙ not-true _ (c .if4 .taken))
+returns-4 c = let three = c .before .before .before in
+    let two = three .before .before .before .before .before in
+    let one = two .before .before .before in
+    rw (
+      held (one .before .in-range .ensures) (one .if1 .left),
+      held (two .before .in-range2 .ensures) (two .if2 .left),
+      ← (three .before .before .word .ensures),
+      held (three .before .in-range3 .ensures) (three .if3 .left),
+      failed (c .before .in-range4 .ensures) (c .if4 .taken),
+    )
 
--- src/lib.rt:212:1
 returns-5 : tie.Need-returns-5
 unfolding headingAnswer
-returns-5 c = rw (sym (c .before .before .before .before .before .before .before .before .before .before .before .before .in-range .ensures) ∙ not-false _ (c .before .before .before .before .before .before .before .before .before .before .before .if1 .left), sym (c .before .before .before .before .before .before .before .before .before .in-range2 .ensures) ∙ not-false _ (c .before .before .before .before .before .before .before .before .if2 .left), ← (c .before .before .before .before .before .word .ensures), sym (c .before .before .before .before .in-range3 .ensures) ∙ not-false _ (c .before .before .before .if3 .left), sym (c .before .in-range4 .ensures) ∙ not-false _ (c .if4 .left))
+returns-5 c = let three = c .before .before .before in
+    let two = three .before .before .before .before .before in
+    let one = two .before .before .before in
+    rw (
+      held (one .before .in-range .ensures) (one .if1 .left),
+      held (two .before .in-range2 .ensures) (two .if2 .left),
+      ← (three .before .before .word .ensures),
+      held (three .before .in-range3 .ensures) (three .if3 .left),
+      held (c .before .in-range4 .ensures) (c .if4 .left),
+    )
 
 pub heading-answer-spec : {M : Type 1} → statement M
 heading-answer-spec =

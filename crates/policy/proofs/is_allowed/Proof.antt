@@ -1,44 +1,34 @@
+-- One test for each group of kinds that allow the same fields. Assumes nothing.
 use mathlib.Core.Path.{sym}
 use Rattle.policy.proofs.Line.{one-operand, all-fields}
 use Rattle.policy.specs.Format.{allowed}
 use borrow.Author.Needs.{needs}
 use Rattle.policy.proofs.is_allowed.Statement.{statement}
 use Rattle.policy.proofs.is_allowed.Tie as tie
-use Rattle.policy.proofs.is_allowed.Reads as reads
-use Rattle.policy.proofs.is_allowed.Lts as lts
-use Rattle.encoding.proofs.has.Reads as has-reads
 
--- src/lib.rt:117:21
 has-requires : tie.Need-has-requires
 has-requires c κs = search needs
 
--- src/lib.rt:118:22
 has-requires-2 : tie.Need-has-requires-2
 has-requires-2 c κs = search needs
 
--- src/lib.rt:119:21
 has-requires-3 : tie.Need-has-requires-3
 has-requires-3 c κs = search needs
 
--- src/lib.rt:120:21
 has-requires-4 : tie.Need-has-requires-4
 has-requires-4 c κs = search needs
 
--- src/lib.rt:123:9
 returns : tie.Need-returns
 unfolding allowed
 returns c = simp (c .if1 .taken, c .before .has4 .ensures, c .before .before .has3 .ensures, c .before .before .before .has2 .ensures, c .before .before .before .before .has .ensures)
 
--- src/lib.rt:126:9
 returns-2 : tie.Need-returns-2
 returns-2 c = rw (one-operand (c .before .before .before .before .before .before .args .kind) (c .before .before .before .before .before .before .args .map) (c .before .if1 .left) (c .if2 .taken)) (simp (c .before .before .has4 .ensures, c .before .before .before .has3 .ensures, c .before .before .before .before .has2 .ensures))
 
--- src/lib.rt:129:9
 returns-3 : tie.Need-returns-3
 unfolding allowed
 returns-3 c = simp (c .if3 .taken, c .before .before .before .has4 .ensures, c .before .before .before .before .has3 .ensures)
 
--- src/lib.rt:114:1
 returns-4 : tie.Need-returns-4
 returns-4 c = sym (all-fields (c .before .before .before .before .before .before .before .args .kind) (c .before .before .before .before .before .before .before .args .map) (c .before .if2 .left) (c .if3 .left))
 

@@ -1,40 +1,32 @@
+-- One test for each group of kinds that name the same operands. Assumes nothing.
 use mathlib.Core.Path.{sym}
 use Rattle.policy.proofs.Line.{two-operands}
 use Rattle.policy.specs.Format.{operandsGood}
 use borrow.Author.Needs.{needs}
 use Rattle.policy.proofs.operands_good.Statement.{statement}
 use Rattle.policy.proofs.operands_good.Tie as tie
-use Rattle.policy.proofs.operands_good.Reads as reads
-use Rattle.policy.proofs.operands_good.Lts as lts
 
--- src/lib.rt:142:9
 returns : tie.Need-returns
 unfolding operandsGood
 returns c = simp (c .if1 .taken)
 
--- src/lib.rt:145:9
 returns-2 : tie.Need-returns-2
 unfolding operandsGood
 returns-2 c = simp (c .if2 .taken)
 
--- src/lib.rt:148:17
 cast-result : tie.Need-cast-result
 cast-result c = search needs
 
--- src/lib.rt:148:9
 returns-3 : tie.Need-returns-3
 unfolding operandsGood
 returns-3 c = simp (c .if3 .taken)
 
--- src/lib.rt:150:7
 cast-result-2 : tie.Need-cast-result-2
 cast-result-2 c = search needs
 
--- src/lib.rt:150:35
 cast-result-3 : tie.Need-cast-result-3
 cast-result-3 c = search needs
 
--- src/lib.rt:135:1
 returns-4 : tie.Need-returns-4
 returns-4 c = sym (two-operands _ _ (c .before .before .before .args .fields) (c .before .before .before .args .fields .kind) (c .before .before .if1 .left) (c .before .if2 .left) (c .if3 .left))
 

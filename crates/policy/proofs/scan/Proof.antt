@@ -1,23 +1,14 @@
-use Rattle.policy.proofs.Lines.{UpTo, nothing-read, table-length, cut, bad, one-line, refused-lines, read-lines}
-use Rattle.policy.specs.Format.{fieldsAt, goodLine, subformulasOf}
-use lib.ListN.{length}
-use borrow.Author.Tests.{not-true, not-false, leb-true}
+use Rattle.policy.proofs.Line.{held, failed}
+-- Invariant: the first i lines are accepted and read (`UpTo`). A line that fails refuses all, since the answer of the lines keeps its first refusal. Assumes nothing.
+use Rattle.policy.proofs.Lines.{UpTo, nothing-read, cut, bad, one-line, refused-lines, read-lines}
+use borrow.Author.Tests.{leb-true}
 use borrow.Author.Needs.{needs}
 use native.Mathlib.Numerals.{add-one}
 use native.Mathlib.Omega.{arith}
-use mathlib.Core.List.{List}
-use mathlib.Core.Path.{_≡_, sym, ap, subst, _∙_}
-use Prim.Native.Nat.{ℕ, suc, _+_, _-_, _≤_, _<_}
+use mathlib.Core.Path.{_≡_}
+use Prim.Native.Nat.{_-_, _≤_, _<_}
 use Rattle.policy.proofs.scan.Statement.{statement}
 use Rattle.policy.proofs.scan.Tie as tie
-use Rattle.policy.proofs.scan.Reads as reads
-use Rattle.policy.proofs.scan.Lts as lts
-use Rattle.policy.proofs.field_size.Reads as field-size-reads
-use Rattle.policy.proofs.fields_at.Reads as fields-at-reads
-use Rattle.policy.proofs.good_line.Reads as good-line-reads
-use Rattle.policy.proofs.is_whole.Reads as is-whole-reads
-use Rattle.policy.proofs.line_length.Reads as line-length-reads
-use Rattle.policy.proofs.subformula_of.Reads as subformula-of-reads
 
 abbrev Inv-loop : tie.InvT-loop
 Inv-loop s count propositions subformulas₀ rules₀ at₀ i₀ subformulas rules at i = (i ≤ count) × UpTo s i subformulas rules at
@@ -25,86 +16,77 @@ Inv-loop s count propositions subformulas₀ rules₀ at₀ i₀ subformulas rul
 abbrev μ-loop : tie.MeasureT-loop
 μ-loop s count propositions subformulas₀ rules₀ at₀ i₀ subformulas rules at i = count - i
 
--- src/lib.rt:265:24
 shared-slice-read-propositions : tie.Need-shared-slice-read-propositions Inv-loop μ-loop
 shared-slice-read-propositions c = search needs
 
--- src/lib.rt:274:5
 loop-holds : tie.Need-loop-holds Inv-loop μ-loop
 loop-holds c = (search needs, nothing-read _ (c .before .before .pre .0))
 
--- src/lib.rt:275:13
 is-whole-requires : tie.Need-is-whole-requires Inv-loop μ-loop
 is-whole-requires c κs = c .before .loop .inv .1 .inside
 
--- src/lib.rt:276:13
 returns : tie.Need-returns Inv-loop μ-loop
-returns c = let l = c .before .before .before .loop in
-    let s = c .before .before .before .before .before .before .args .s .now in
-    refused-lines _ _ _ _ _ _ (cut s (l .i) _ _ (l .at) (l .inv .1) _ (c .before .before .loop-test .taken) (sym (c .before .is-whole .ensures) ∙ not-true _ (c .if1 .taken)))
+returns c = let top = c .before .before .before in
+    let l = top .loop in
+    let short = failed (c .before .is-whole .ensures) (c .if1 .taken) in
+    refused-lines _ _ _ _ _ _ (cut (top .before .before .before .args .s .now) (l .i) _ _ (l .at) (l .inv .1) _ (c .before .before .loop-test .taken) short)
 
--- src/lib.rt:283:13
 fields-at-requires : tie.Need-fields-at-requires Inv-loop μ-loop
-fields-at-requires c κs = leb-true _ _ (sym (c .before .is-whole .ensures) ∙ not-false _ (c .if1 .left))
+fields-at-requires c κs = leb-true _ _ (held (c .before .is-whole .ensures) (c .if1 .left))
 
--- src/lib.rt:284:13
 good-line-requires : tie.Need-good-line-requires Inv-loop μ-loop
 good-line-requires c κs = search needs
 
--- src/lib.rt:285:13
 returns-2 : tie.Need-returns-2 Inv-loop μ-loop
-returns-2 c = let l = c .before .before .before .before .before .before .loop in
-    let s = c .before .before .before .before .before .before .before .before .before .args .s .now in
-    let whole = sym (c .before .before .before .before .is-whole .ensures) ∙ not-false _ (c .before .before .before .if1 .left) in
-    let broken = sym (c .before .good-line .ensures) ∙ not-true _ (c .if2 .taken) in
-    refused-lines _ _ _ _ _ _ (bad s (l .i) (l .subformulas) (l .rules) (l .at) (l .inv .1) _ (c .before .before .fields-at .ensures) whole _ (c .before .before .before .before .before .loop-test .taken) broken)
+returns-2 c = let fields = c .before .before in
+    let top = fields .before .before .before .before in
+    let l = top .loop in
+    let whole = held (fields .before .before .is-whole .ensures) (fields .before .if1 .left) in
+    let broken = failed (c .before .good-line .ensures) (c .if2 .taken) in
+    let line = bad (top .before .before .before .args .s .now) (l .i) (l .subformulas) (l .rules) (l .at) (l .inv .1) _ (fields .fields-at .ensures) whole in
+    refused-lines _ _ _ _ _ _ (line _ (fields .before .before .before .loop-test .taken) broken)
 
--- src/lib.rt:292:13
 subformula-of-requires : tie.Need-subformula-of-requires Inv-loop μ-loop
 subformula-of-requires c κs = search needs
 
--- src/lib.rt:293:9
 mul-subformulas : tie.Need-mul-subformulas Inv-loop μ-loop
 mul-subformulas c = search needs
 
--- src/lib.rt:293:9
 array-set-from-subformulas : tie.Need-array-set-from-subformulas Inv-loop μ-loop
 array-set-from-subformulas c = omega (arith, c .before .before .before .before .before .before .before .before .before .before .pre .1)
 
--- src/lib.rt:295:18
 field-size-requires : tie.Need-field-size-requires Inv-loop μ-loop
 field-size-requires c κs = search needs
 
--- src/lib.rt:295:9
 add-rules : tie.Need-add-rules Inv-loop μ-loop
 add-rules c = search needs
 
--- src/lib.rt:296:15
 line-length-requires : tie.Need-line-length-requires Inv-loop μ-loop
 line-length-requires c κs = search needs
 
--- src/lib.rt:296:9
 add-at : tie.Need-add-at Inv-loop μ-loop
 add-at c = search needs
 
--- src/lib.rt:297:9
 add-i : tie.Need-add-i Inv-loop μ-loop
 add-i c = search needs
 
--- src/lib.rt:274:5
 loop-less : tie.Need-loop-less Inv-loop μ-loop
 loop-less c = search needs
 
--- src/lib.rt:274:5
 loop-again : tie.Need-loop-again Inv-loop μ-loop
-loop-again c = let l = c .before .before .before .before .before .before .before .before .before .loop in
-    let s = c .before .before .before .before .before .before .before .before .before .before .before .before .args .s .now in
-    let whole = sym (c .before .before .before .before .before .before .before .is-whole .ensures) ∙ not-false _ (c .before .before .before .before .before .before .if1 .left) in
-    let good = sym (c .before .before .before .before .good-line .ensures) ∙ not-false _ (c .before .before .before .if2 .left) in
-    let line = one-line s (l .i) (l .subformulas) (l .rules) (l .at) (l .inv .1) _ (c .before .before .before .before .before .fields-at .ensures) whole in
-    (search needs, rw add-one (line (omega (arith, c .before .before .before .before .before .before .before .before .before .before .before .before .pre .1)) good (c .before .before .subformula-of .ensures) (c .before .field-size .ensures) (c .line-length .ensures .0)))
+loop-again c = let fields = c .before .before .before .before .before in
+    let top = fields .before .before .before .before in
+    let start = top .before .before .before in
+    let l = top .loop in
+    let whole = held (fields .before .before .is-whole .ensures) (fields .before .if1 .left) in
+    let good = held (c .before .before .before .before .good-line .ensures) (c .before .before .before .if2 .left) in
+    let small : l .i < 64 = omega (arith, start .pre .1) in (
+      search needs,
+      rw add-one
+          (one-line (start .args .s .now) (l .i) (l .subformulas) (l .rules) (l .at) (l .inv .1) _ (fields .fields-at .ensures) whole small good
+          (c .before .before .subformula-of .ensures) (c .before .field-size .ensures) (c .line-length .ensures .0)),
+    )
 
--- src/lib.rt:261:1
 returns-3 : tie.Need-returns-3 Inv-loop μ-loop
 returns-3 c = let l = c .before .loop in
     let e : l .i ≡ c .before .before .before .before .args .count = omega arith in

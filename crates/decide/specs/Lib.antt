@@ -1,0 +1,3 @@
+-- Tests and what they decide.
+pub mod Decide
+pub mod Laws

@@ -1,0 +1,1 @@
+// Tests and what they decide: definitions and laws only.

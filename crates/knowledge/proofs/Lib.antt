@@ -1,0 +1,9 @@
+pub mod Walk
+pub mod Gap
+pub mod Putting
+pub mod Pair
+pub mod Points
+pub mod Words
+pub mod Parts
+pub mod Admits
+pub mod Own

@@ -1,0 +1,73 @@
+-- A row joined with what a run tells, one stretch of minutes after another; and what one more component tells.
+-- Assumes nothing.
+use mathlib.Core.Path.{_≡_, refl, sym, ap, ap₂, _∙_}
+use mathlib.Core.Bool.{Bool, true, false, not, cond, _||_}
+use mathlib.Core.List.{List}
+use Prim.Native.Nat.{ℕ, _+_, _≤_, _<_}
+use native.Mathlib.Nat.{zero-add}
+use native.Mathlib.Numerals.{add-one}
+use native.Mathlib.Omega.{arith}
+use lib.ListN.{getD}
+use Rattle.kleene.specs.Truth.{Truth, unknown, true3, false3, codeOf, valueOf, or3, read-back}
+use Rattle.mtl.specs.Algebra.{any, all}
+use Rattle.mtl.specs.Algebra as algebra
+use Rattle.rows.specs.Over.{Over}
+use Rattle.rows.specs.Laws.{two}
+use Rattle.policy.specs.declared.Sizes.{Sizes}
+use Rattle.knowledge.specs.Knowledge.{Knowledge, number, is-point, is-none, point-known}
+use Rattle.knowledge.specs.Run.{run-of, rises, level, told}
+
+-- the row with what run f tells
+abbrev pub joined : (ℕ → ℕ) → ℕ → List ℕ → ℕ → ℕ
+joined f m row t = codeOf (or3 (valueOf (getD row t 0)) (told f m t))
+
+pub stretch : (f : ℕ → ℕ) (m mid hi : ℕ) (old row new : List ℕ) (code : ℕ) → Over (joined f m old) 0 mid old row
+    → Over (λ i. codeOf (or3 (valueOf (getD row i 0)) (valueOf code))) mid hi row new → mid ≤ hi
+    → ((t : ℕ) → mid ≤ t → t < hi → valueOf code ≡ told f m t) → Over (joined f m old) 0 hi old new
+stretch f m mid hi old row new code o s l e =
+    two (joined f m old) (λ i. codeOf (or3 (valueOf (getD row i 0)) (valueOf code))) 0 mid hi old row new o s (omega arith) l
+    (λ t p q. ap₂ (λ (x : ℕ) (y : Truth). codeOf (or3 (valueOf x) y)) (o .above t p) (e t p q))
+
+-- what the first n components tell of minute t
+unfoldable pub points : List ℕ → ℕ → ℕ → ℕ → Truth
+points l m n t = cond (any algebra.two 0 n (λ c. rises (run-of l m c) t)) true3 (cond (all algebra.two 0 n (λ c. level (run-of l m c) m t)) false3 unknown)
+
+joins : (a b q r : Bool)
+    → cond (a || b) true3 (cond (not (not q || not r)) false3 unknown)
+    ≡ or3 (cond a true3 (cond q false3 unknown)) (cond b true3 (cond r false3 unknown))
+joins true true true true = refl
+joins true true true false = refl
+joins true true false true = refl
+joins true true false false = refl
+joins true false true true = refl
+joins true false true false = refl
+joins true false false true = refl
+joins true false false false = refl
+joins false true true true = refl
+joins false true true false = refl
+joins false true false true = refl
+joins false true false false = refl
+joins false false true true = refl
+joins false false true false = refl
+joins false false false true = refl
+joins false false false false = refl
+
+-- one more component is joined by Kleene's or
+pub points-more : (l : List ℕ) (m n t : ℕ) → points l m (n + 1) t ≡ or3 (points l m n t) (told (run-of l m n) m t)
+unfolding points told
+points-more l m n t =
+    rw add-one
+    (joins (any algebra.two 0 n (λ c. rises (run-of l m c) t)) (rises (run-of l m (0 + n)) t) (all algebra.two 0 n (λ c. level (run-of l m c) m t)) (level (run-of l m (0 + n)) m t)
+    ∙ ap (λ (j : ℕ). or3 (points l m n t) (told (run-of l m j) m t)) (zero-add n))
+
+pub all-points : (z : Sizes) (k : Knowledge) (t : ℕ) → points (k .numbers) (z .minutes) (z .components) t ≡ point-known z k t
+unfolding points is-point is-none number rises level
+all-points z k t = refl
+
+-- the row after one more component
+pub one-more-run : (l : List ℕ) (f : ℕ → ℕ) (m n : ℕ) (row new : List ℕ) → Over (joined f m row) 0 m row new
+    → ((t : ℕ) → t < m → getD row t 0 ≡ codeOf (points l m n t)) → ((t : ℕ) → t < m → told f m t ≡ told (run-of l m n) m t)
+    → (t : ℕ) → t < m → getD new t 0 ≡ codeOf (points l m (n + 1) t)
+one-more-run l f m n row new o e s t h =
+    o .inside t (omega arith) h
+    ∙ ap codeOf (ap₂ or3 (read-back (getD row t 0) (points l m n t) (e t h)) (s t h) ∙ sym (points-more l m n t))

@@ -1,0 +1,53 @@
+-- A walk over a run's known places: what is shown of neighbours holds of any two.
+-- Assumes nothing.
+use mathlib.Core.Path.{_≡_, sym, subst}
+use mathlib.Core.Logic.{_⊎_, ⊎-elim}
+use Prim.Native.Nat.{ℕ, _+_, _-_, _≤_, _<_}
+use native.Mathlib.Nat.{eq-or-lt-of-le}
+use native.Mathlib.Omega.{arith}
+use Rattle.rows.specs.Laws.{lt-or-le}
+use Rattle.knowledge.specs.Knowledge.{none}
+use Rattle.knowledge.specs.Run.{Follow, Steady, Next}
+
+-- the run is steady up to p, which is known
+pub record Walked (f : ℕ → ℕ) (p : ℕ) : Type 0 where
+  pub first : f 0 ≡ 0
+  pub known : f p < none
+  pub pairs : (b : ℕ) → b ≤ p → (a : ℕ) → a < b → f a < none → f b < none → Follow (f a) (f b) (b - a)
+
+pub start : (f : ℕ → ℕ) → f 0 ≡ 0 → Walked f 0
+start f e = record { first = e; known = omega arith; pairs = λ b p a q k m. absurd (let z : ⊥ = omega arith in z) }
+
+-- between p and its next known place no place is known
+pub not-between : (f : ℕ → ℕ) (n p q b : ℕ) → Next f n (p + 1) q → f b < none → b < q → b ≤ p
+not-between f n p q b N k l =
+    ⊎-elim (λ (w : p < b). absurd (let h = N .between b (omega arith) l in let z : ⊥ = omega arith in z)) (λ (w : b ≤ p). w) (lt-or-le p b)
+
+pub follow-more : (v w x c d e : ℕ) → c + d ≡ e → Follow v w c → Follow w x d → Follow v x e
+follow-more v w x c d e s f g = omega arith
+
+module _ (f : ℕ → ℕ) (n p q : ℕ) (W : Walked f p) (N : Next f n (p + 1) q) where
+  pub step : q < n → Follow (f p) (f q) (q - p) → Walked f q
+  step l g =
+      let past = N .past in
+      record {
+        first = W .first;
+        known = N .there l;
+        pairs = λ b le a lt ka kb.
+            ⊎-elim
+            (λ (e : b ≡ q).
+            let near : a ≤ p = not-between f n p q a N ka (omega arith) in
+            subst (λ (j : ℕ). Follow (f a) (f j) (j - a)) (sym e)
+            (⊎-elim
+            (λ (e : a ≡ p). subst (λ (j : ℕ). Follow (f j) (f q) (q - j)) (sym e) g)
+            (λ (w : a < p). follow-more (f a) (f p) (f q) (p - a) (q - p) (q - a) (omega arith) (W .pairs p (omega arith) a w ka (W .known)) g)
+            (eq-or-lt-of-le near)))
+            (λ (w : b < q). W .pairs b (not-between f n p q b N kb w) a lt ka kb)
+            (eq-or-lt-of-le le);
+      }
+
+  pub finish : q ≡ n → Steady f n
+  finish e = record { first = W .first; pairs = λ b l a lt ka kb. W .pairs b (not-between f n p q b N kb (omega arith)) a lt ka kb }
+
+  pub fail : q < n → (Follow (f p) (f q) (q - p) → ⊥) → Steady f n → ⊥
+  fail l h s = let past = N .past in h (s .pairs q l p (omega arith) (W .known) (N .there l))

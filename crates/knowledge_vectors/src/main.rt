@@ -1,0 +1,225 @@
+// Prints what the functions over the knowledge answer to the vectors of standard input.
+//
+// A line is a vector, in hexadecimal with a space between bytes, where zeros at the end may be left out: propositions, components (at
+// most 2), minutes (2 bytes), the message's length and the message, the sequence numbers (2 bytes each), the facts (4 bytes each).
+// A line that starts with '#' says what the next ones are, and is printed as it is.
+use message::Event;
+use policy::Answer;
+use policy::Sizes;
+use refusal::Refusal;
+ghost use Prim.Native.Nat.{suc, _+_, _*_, _≤_, _<_};
+ghost use mathlib.Core.Path.{_≡_};
+ghost use lib.ListN.{length};
+ghost use Rattle.message.specs.Fixes.{Fits};
+ghost use Rattle.knowledge.specs.Knowledge.{Sized, Sound};
+ghost use Rattle.knowledge.specs.Laws.{Limits};
+ghost use Rattle.knowledge.specs.Run.{held, sent, Steady-runs};
+
+// The value of a hexadecimal digit.
+fn digit(c: u8) -> u8
+    ensures { λ r. ⌜ r < 16 ⌝ }
+{
+    if c < b'A' {
+        return c % 16;
+    }
+    (c - b'A' + 10) % 16
+}
+
+// Byte k of a line, 0 past its end.
+fn byte_at(line: &[u8], k: usize) -> u8
+    requires { ⌜ k < 20000 ⌝ }
+{
+    if line.len() < 3 * k + 2 {
+        return 0;
+    }
+    digit(line[3 * k]) * 16 + digit(line[3 * k + 1])
+}
+
+fn word_at(line: &[u8], k: usize) -> u16
+    requires { ⌜ k < 19990 ⌝ }
+{
+    byte_at(line, k) as u16 + byte_at(line, k + 1) as u16 * 256
+}
+
+fn wide_at(line: &[u8], k: usize) -> u32
+    requires { ⌜ k < 19980 ⌝ }
+{
+    word_at(line, k) as u32 + word_at(line, k + 2) as u32 * 65536
+}
+
+fn sizes_of(line: &[u8]) -> Sizes
+    ensures { λ r. ⌜ Limits r × (r .components ≤ 2) ⌝ }
+{
+    Sizes {
+        propositions: byte_at(line, 0) as usize % 33,
+        components: byte_at(line, 1) as usize % 3,
+        minutes: word_at(line, 2) as usize % 1025,
+    }
+}
+
+// How many sequence numbers there are.
+fn numbers_size(sizes: Sizes) -> usize
+    requires { ⌜ Limits sizes × (sizes .components ≤ 2) ⌝ }
+    ensures { λ r. ⌜ (r ≡ sizes .components * suc (sizes .minutes)) × (r ≤ 2050) ⌝ }
+{
+    sizes.components * (sizes.minutes + 1)
+}
+
+// The first n bytes, words and wide words of a line from a place on.
+fn bytes_of(line: &[u8], from: usize, n: usize) -> [u8; 256]
+    requires { ⌜ (from < 9000) × (n ≤ 256) ⌝ }
+    ensures { λ r. ⌜ length r ≡ 256 ⌝ }
+{
+    let mut out = [0u8; 256];
+    let mut i = 0;
+    while i < n {
+        out[i] = byte_at(line, from + i);
+        i += 1;
+    }
+    out
+}
+
+fn words_of(line: &[u8], from: usize, n: usize) -> [u16; 2050]
+    requires { ⌜ (from < 9000) × (n ≤ 2050) ⌝ }
+    ensures { λ r. ⌜ length r ≡ 2050 ⌝ }
+{
+    let mut out = [0u16; 2050];
+    let mut i = 0;
+    while i < n {
+        out[i] = word_at(line, from + 2 * i);
+        i += 1;
+    }
+    out
+}
+
+fn wide_of(line: &[u8], from: usize, n: usize) -> [u32; 2048]
+    requires { ⌜ (from < 9000) × (n ≤ 2048) ⌝ }
+    ensures { λ r. ⌜ length r ≡ 2048 ⌝ }
+{
+    let mut out = [0u32; 2048];
+    let mut i = 0;
+    while i < n {
+        out[i] = wide_at(line, from + 4 * i);
+        i += 1;
+    }
+    out
+}
+
+fn show_number(n: u64) {
+    io::write_all(1, b" ");
+    io::print_decimal(1, n);
+}
+
+fn show_words(words: &[u16]) {
+    let mut i = 0;
+    while i < words.len() {
+        show_number(words[i] as u64);
+        i += 1;
+    }
+}
+
+fn show_wide(words: &[u32]) {
+    let mut i = 0;
+    while i < words.len() {
+        show_number(words[i] as u64);
+        i += 1;
+    }
+}
+
+// A digit for each minute: 1 a time point, 2 none, 0 unknown.
+fn show_row(sizes: Sizes, numbers: &[u16])
+    requires { ⌜ Limits sizes × (length (now numbers) ≡ sizes .components * suc (sizes .minutes)) × Steady-runs sizes (now numbers) ⌝ }
+{
+    let row = knowledge::point_row(sizes, numbers);
+    let minutes = sizes.minutes;
+    let mut t = 0;
+    while t < minutes {
+        io::print_decimal(1, row[t] as u64);
+        t += 1;
+    }
+}
+
+fn show_refusal(r: Refusal) {
+    io::write_all(1, b" refused");
+    show_number(refusal::number(r) as u64);
+}
+
+// Offers a message in range to sound knowledge.
+fn offer(sizes: Sizes, numbers: &mut [u16], facts: &mut [u32], component: usize, event: Event)
+    requires { ⌜ Limits sizes × Sized sizes (held (now numbers) (now facts)) × Sound sizes (held (now numbers) (now facts)) × Fits sizes (sent component event) ⌝ }
+{
+    if !knowledge::admits_message(sizes, numbers, facts, component, event) {
+        io::write_all(1, b" conflict");
+        return;
+    }
+    knowledge::store(sizes, numbers, facts, component, event);
+    io::write_all(1, b" stored");
+    show_words(numbers);
+    io::write_all(1, b" /");
+    show_wide(facts);
+}
+
+fn show_case(sizes: Sizes, numbers: &mut [u16], facts: &mut [u32], message: &[u8])
+    requires { ⌜ Limits sizes × Sized sizes (held (now numbers) (now facts)) ⌝ }
+{
+    if !knowledge::is_sound(sizes, numbers, facts) {
+        io::write_all(1, b"corrupt");
+        return;
+    }
+    io::write_all(1, b"sound ");
+    show_row(sizes, numbers);
+    let d = message::decode(message, sizes);
+    let answer = d.answer;
+    let event = d.event;
+    match answer {
+        Answer::Accepted => offer(sizes, numbers, facts, d.component, event),
+        Answer::Refused(r) => show_refusal(r),
+    }
+}
+
+fn show_vector(line: &[u8]) {
+    let sizes = sizes_of(line);
+    let m = byte_at(line, 4) as usize;
+    let n = numbers_size(sizes);
+    let f = 2 * sizes.minutes;
+    let message = bytes_of(line, 5, m);
+    let mut numbers = words_of(line, 5 + m, n);
+    let mut facts = wide_of(line, 5 + m + 2 * n, f);
+    show_case(sizes, &mut numbers[0..n], &mut facts[0..f], &message[0..m]);
+}
+
+fn show_line(line: &[u8]) {
+    if 0 < line.len() && line[0] == b'#' {
+        io::write_all(1, line);
+    } else {
+        show_vector(line);
+    }
+    io::write_all(1, b"\n");
+}
+
+// Where the line that starts at a place ends.
+fn line_end(text: &[u8], at: usize) -> usize
+    requires { ⌜ at ≤ length (now text) ⌝ }
+    ensures { λ r. ⌜ (at ≤ r) × (r ≤ length (now (text .entry))) ⌝ }
+{
+    let mut end = at;
+    while end < text.len() && text[end] != b'\n' {
+        end += 1;
+    }
+    end
+}
+
+fn show_lines(text: &[u8]) {
+    let mut at = 0;
+    while at < text.len() {
+        let end = line_end(text, at);
+        show_line(&text[at..end]);
+        at = end + 1;
+    }
+}
+
+fn main() {
+    let mut text = io::large_buffer();
+    let n = io::read_full(0, &mut text);
+    show_lines(&text[..n]);
+}

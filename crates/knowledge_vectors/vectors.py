@@ -1,0 +1,272 @@
+#!/usr/bin/env python3
+"""Writes the vectors to `stdin`, and to `stdout` what a checker made from 01 alone, apart from the crate, says of them.
+
+The checker knows no gaps and no neighbours: it tests every pair of places, and asks of a slip whether some shift has its counts."""
+import os
+import random
+
+NONE = 65535
+lines = []
+
+
+def runs(sizes, numbers):
+    marks, stations, minutes = sizes
+    return [numbers[s * (minutes + 1):(s + 1) * (minutes + 1)] for s in range(stations)]
+
+
+def sound(sizes, numbers, facts):
+    """01: every first count is 0, any two known counts of one station at places a < b satisfy 0 <= later - earlier <= b - a, no value bit is 1
+    where its mark isn't known, and no mark beyond the card is known."""
+    marks, stations, minutes = sizes
+    for run in runs(sizes, numbers):
+        if run[0] != 0:
+            return False
+        known = [(p, v) for p, v in enumerate(run) if v != NONE]
+        if any(not 0 <= w - v <= b - a for a, v in known for b, w in known if a < b):
+            return False
+    return all(values & ~named == 0 and named >> marks == 0 for named, values in zip(facts[0::2], facts[1::2]))
+
+
+def row(sizes, numbers):
+    """01: known busy, known quiet, else open, for each minute: 1, 2, 0."""
+    marks, stations, minutes = sizes
+
+    def quiet(run, t):
+        return any(run[a] != NONE and run[a] == run[b] for a in range(t + 1) for b in range(t + 1, minutes + 1))
+
+    def code(t):
+        if any(run[t] != NONE and run[t + 1] != NONE and run[t + 1] - run[t] == 1 for run in runs(sizes, numbers)):
+            return '1'
+        return '2' if all(quiet(run, t) for run in runs(sizes, numbers)) else '0'
+
+    return ''.join(code(t) for t in range(minutes))
+
+
+def quick_row(sizes, numbers):
+    """The same for a long run, by the first and last place of each count, since equal counts lie together in a sound run."""
+    marks, stations, minutes = sizes
+    spans = []
+    for run in runs(sizes, numbers):
+        span = {}
+        for p, v in enumerate(run):
+            if v != NONE:
+                span.setdefault(v, [p, p])[1] = p
+        spans.append(span)
+
+    def code(t):
+        if any(run[t] != NONE and run[t + 1] != NONE and run[t + 1] - run[t] == 1 for run in runs(sizes, numbers)):
+            return '1'
+        return '2' if all(any(a <= t < b for a, b in span.values()) for span in spans) else '0'
+
+    return ''.join(code(t) for t in range(minutes))
+
+
+def decoded(sizes, slip):
+    """The slip's fields, by 01; None where it is turned away. Here slips only go wrong by their ranges."""
+    marks, stations, minutes = sizes
+    bits, at, found = slip[0], 1, {}
+    for bit, (name, n) in enumerate([('station', 1), ('minute', 2), ('count', 2), ('map', 4)]):
+        found[name] = 0
+        if bits >> bit & 1:
+            found[name] = int.from_bytes(bytes(slip[at:at + n]), 'little')
+            at += n
+    named = [k for k in range(32) if found['map'] >> k & 1]
+    packed = int.from_bytes(bytes(slip[at:]), 'little')
+    values = sum(1 << k for j, k in enumerate(named) if packed >> j & 1)
+    alive = bool(bits & 16)
+    if found['station'] >= stations or found['minute'] >= minutes + alive or found['map'] >> marks or (not alive and found['count'] < 1):
+        return None
+    return alive, found['station'], found['minute'], found['count'], found['map'], values
+
+
+def possible(run):
+    """Some shift has these counts: each minute adds one observation or none."""
+    counts = {0}
+    for place, known in enumerate(run):
+        if place:
+            counts |= {c + 1 for c in counts}
+        if known != NONE:
+            counts &= {known}
+    return bool(counts)
+
+
+def offered(sizes, numbers, facts, slip):
+    """01: clash where no shift fits record and slip; else all that the slip fixes is made known."""
+    marks, stations, minutes = sizes
+    read = decoded(sizes, slip)
+    if read is None:
+        return 'refused 8'
+    alive, station, t, s, named, values = read
+    fixed = [(t, s)] if alive else [(t + 1, s), (t, s - 1)]
+    numbers, facts = list(numbers), list(facts)
+    for p, v in fixed:
+        i = station * (minutes + 1) + p
+        # a shift of at most 1,024 minutes has no count of 65535
+        if v > minutes + 1 or numbers[i] not in (NONE, v):
+            return 'conflict'
+        numbers[i] = v
+    if not alive:
+        if any(named >> k & 1 and facts[2 * t] >> k & 1 and (facts[2 * t + 1] ^ values) >> k & 1 for k in range(32)):
+            return 'conflict'
+        facts[2 * t] |= named
+        facts[2 * t + 1] |= values
+    if not all(possible(run) for run in runs(sizes, numbers)):
+        return 'conflict'
+    return 'stored' + ''.join(f' {n}' for n in numbers) + ' /' + ''.join(f' {f}' for f in facts)
+
+
+def about(text):
+    lines.append(('# ' + text, '# ' + text))
+
+
+def vector(sizes, numbers, facts, slip, told=row):
+    marks, stations, minutes = sizes
+    assert len(numbers) == stations * (minutes + 1) and len(facts) == 2 * minutes and stations <= 2
+    data = [marks, stations, minutes % 256, minutes // 256, len(slip), *slip]
+    for n in numbers:
+        data += n.to_bytes(2, 'little')
+    for f in facts:
+        data += f.to_bytes(4, 'little')
+    while data[-1] == 0:
+        data.pop()
+    if not sound(sizes, numbers, facts):
+        answer = 'corrupt'
+    else:
+        answer = f'sound {told(sizes, numbers)} {offered(sizes, numbers, facts, slip)}'
+    lines.append((' '.join(f'{b:02X}' for b in data), answer))
+    return answer
+
+
+def known(sizes, numbers, facts, slip):
+    """What is known after the slip."""
+    answer = vector(sizes, numbers, facts, slip)
+    before, _, after = answer.partition(' / ')
+    if 'stored' not in before:
+        return numbers, facts
+    return [int(x) for x in before.split('stored ')[1].split()], [int(x) for x in after.split()]
+
+
+def observation(station, minute, count, named=0, values=0):
+    found = [(station, 1), (minute, 2), (count, 2), (named, 4)]
+    slip = [sum(1 << bit for bit, (v, n) in enumerate(found) if v)]
+    for v, n in found:
+        slip += v.to_bytes(n, 'little') if v else b''
+    marks = [k for k in range(32) if named >> k & 1]
+    packed = sum(1 << j for j, k in enumerate(marks) if values >> k & 1)
+    return slip + list(packed.to_bytes((len(marks) + 7) // 8, 'little'))
+
+
+def alive(station, minute, count):
+    slip = observation(station, minute, count)
+    return [slip[0] | 16] + slip[1:]
+
+
+def fresh(sizes):
+    marks, stations, minutes = sizes
+    return ([0] + [NONE] * minutes) * stations, [0] * (2 * minutes)
+
+
+K = (1, 1, 4)
+A = [0x0C, 1, 0, 1, 0, 0, 0, 0]
+B = [0x0E, 2, 0, 2, 0, 1, 0, 0, 0, 1]
+D = [0x06, 3, 0, 3, 0]
+TEN = [0x10]
+
+about('the small shift: A, B, D one after another, and D again')
+k = fresh(K)
+for slip in [A, B, D, D]:
+    k = known(K, *k, slip)
+about('B, A; then an alive slip at minute 4 with count 2')
+k = fresh(K)
+for slip in [B, A, [0x16, 4, 0, 2, 0]]:
+    k = known(K, *k, slip)
+about('an alive slip of the start, and 04 02 00')
+for slip in [TEN, [0x04, 2, 0]]:
+    vector(K, *fresh(K), slip)
+about('after A: 12 01 00, and A with last byte 01; after A, B an alive slip at minute 5 and an observation at minute 4')
+k = known(K, *fresh(K), A)
+for slip in [[0x12, 1, 0], A[:-1] + [1]]:
+    vector(K, *k, slip)
+k = known(K, *k, B)
+for slip in [[0x16, 5, 0, 2, 0], [0x06, 4, 0, 3, 0]]:
+    vector(K, *k, slip)
+
+about('damaged: the first number 1; a step of 2 in one minute; a later number below an earlier one; too far in a gap')
+for numbers in [[1, 1, 1, 1, 1], [0, 0, 2, 2, 2], [0, 1, 0, NONE, NONE], [0, 1, NONE, 0, NONE], [0, NONE, NONE, NONE, 5], [NONE] * 5]:
+    vector(K, numbers, [0] * 8, TEN)
+about('damaged: a value without its mark; a mark past the card; fine next to each')
+for facts in [[0, 1] + [0] * 6, [2, 0] + [0] * 6, [1, 3] + [0] * 6, [0] * 6 + [0, 1 << 31], [1, 1] + [0] * 6, [1, 0] * 4]:
+    vector(K, fresh(K)[0], facts, TEN)
+W = (32, 2, 3)
+about('32 marks: the highest one known, with and without its value, and a value without it')
+for facts in [[1 << 31, 1 << 31, 0, 0, 0, 0], [1 << 31, 0, 0, 0, 0, 0], [1 << 30, 1 << 31, 0, 0, 0, 0]]:
+    vector(W, fresh(W)[0], facts, TEN)
+about('damaged: the second station only')
+vector(W, [0, 1, 1, 1, 1, 1, 1, 1], [0] * 6, TEN)
+vector(W, [0, 1, 1, 1, 0, 1, 3, 3], [0] * 6, TEN)
+
+G = (1, 1, 7)
+about('gaps: none, one step, level, wide, narrow, and open at the end')
+for numbers in [[0, NONE, NONE, NONE, NONE, NONE, NONE, NONE], [0, 1, 2, 2, 2, 3, 3, 4], [0, NONE, NONE, 0, NONE, NONE, 3, NONE],
+                [0, NONE, 2, NONE, NONE, 2, 3, 3], [0, NONE, 1, 1, NONE, NONE, NONE, 1], [0, NONE, NONE, NONE, NONE, NONE, NONE, 7],
+                [0, 0, NONE, 1, 2, NONE, 2, NONE]]:
+    for slip in [TEN, observation(0, 3, 1), observation(0, 2, 2, 1, 1), alive(0, 7, 3), alive(0, 3, 0)]:
+        vector(G, numbers, [0] * 14, slip)
+about('two stations: busy if one is, quiet only if both are')
+T = (1, 2, 4)
+for first in [[0, 1, NONE, NONE, 1], [0, 0, 0, 0, 0], [0, NONE, NONE, NONE, NONE]]:
+    for second in [[0, 0, NONE, 0, 1], [0, 1, 1, NONE, 1]]:
+        for slip in [observation(1, 1, 1), observation(0, 3, 2), alive(1, 4, 0)]:
+            vector(T, first + second, [0] * 8, slip)
+about('the count 65535, and the largest that fits the place')
+for slip in [observation(0, 3, 65535), alive(0, 4, 65535), observation(0, 3, 4), observation(0, 3, 5), alive(0, 4, 4), alive(0, 4, 5)]:
+    vector(K, *fresh(K), slip)
+
+about('facts: named again alike, named again otherwise, others named, and a mark past the card')
+F = (8, 1, 2)
+for slip in [observation(0, 0, 1, 0x07, 0x05), observation(0, 0, 1, 0x07, 0x04), observation(0, 0, 1, 0xF0, 0xA0), observation(0, 1, 1, 0x0F, 0x0F), observation(0, 0, 1, 0x100, 0)]:
+    vector(F, [0, NONE, NONE], [0x0F, 0x05, 0, 0], slip)
+
+about('random knowledge and slips')
+rng = random.Random(1)
+for _ in range(120):
+    sizes = (rng.randint(1, 32), rng.randint(1, 2), rng.randint(1, 6))
+    marks, stations, minutes = sizes
+    numbers = []
+    for _ in range(stations):
+        n, run = 0, [0]
+        for _ in range(minutes):
+            n += rng.random() < 0.5
+            run.append(n)
+        keep = rng.random()
+        numbers += [0] + [v if rng.random() < keep else NONE for v in run[1:]]
+    facts = []
+    for _ in range(minutes):
+        named = rng.getrandbits(32) & rng.getrandbits(32) & ((1 << marks) - 1)
+        facts += [named, named & rng.getrandbits(32)]
+    if rng.random() < 0.1:
+        numbers[rng.randrange(len(numbers))] = rng.randint(0, minutes + 1)
+    if rng.random() < 0.1:
+        facts[rng.randrange(len(facts))] |= 1 << rng.randrange(32)
+    station, t = rng.randrange(stations), rng.randrange(minutes)
+    named = rng.getrandbits(32) & rng.getrandbits(32) & ((1 << marks) - 1)
+    values = named & (facts[2 * t + 1] if rng.random() < 0.7 else rng.getrandbits(32))
+    if rng.random() < 0.7:
+        slip = observation(station, t, rng.randint(1, t + 2), named, values)
+    else:
+        slip = alive(station, rng.randint(0, minutes), rng.randint(0, minutes + 1))
+    vector(sizes, numbers, facts, slip)
+
+about('1,024 minutes')
+L = (1, 1, 1024)
+n, run = 0, [0]
+for _ in range(1024):
+    n += rng.random() < 0.4
+    run.append(n)
+run = [0] + [v if rng.random() < 0.6 else NONE for v in run[1:]]
+vector(L, run, [0] * 2048, alive(0, 1024, 1025), quick_row)
+
+folder = os.path.dirname(os.path.abspath(__file__))
+for name, column in (('stdin', 0), ('stdout', 1)):
+    with open(os.path.join(folder, name), 'w') as out:
+        out.writelines(line[column] + '\n' for line in lines)

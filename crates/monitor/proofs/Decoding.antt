@@ -1,0 +1,28 @@
+-- What a call learns of its policy from the reader's answer: where it accepts, the policy is the one that the bytes say, in range; where it
+-- refuses, so do the bytes. Assumes nothing.
+use mathlib.Core.Path.{_≡_, sym, ap, subst, _∙_}
+use mathlib.Core.List.{List}
+use Prim.Native.Nat.{ℕ}
+use Rattle.refusal.specs.declared.Refusal.{Refusal}
+use Rattle.policy.specs.declared.Policy.{Policy}
+use Rattle.policy.specs.declared.Decoded.{Decoded}
+use Rattle.policy.specs.declared.Answer.{Answer as Checked}
+use Rattle.policy.specs.declared.Answer.the-variants as C
+use Rattle.policy.specs.Format.{answerOf, policyOf, decodeOf}
+use Rattle.policy.specs.Proper.{Proper}
+use Rattle.policy.specs.Laws.{accepted, decoded, decoded-answer}
+
+-- the policy that was read
+pub record Read (s : List ℕ) (p : Policy) : Type 0 where
+  pub card : answerOf s ≡ C.Accepted
+  pub same : p ≡ policyOf s
+  pub proper : Proper p
+
+pub answered : (s : List ℕ) (d : Decoded) (a : Checked) → d ≡ decodeOf s → d .answer ≡ a → answerOf s ≡ a
+answered s d a e f = sym (decoded-answer s) ∙ ap (λ (x : Decoded). x .answer) (sym e) ∙ f
+
+pub read-policy : (s : List ℕ) (d : Decoded) → d ≡ decodeOf s → d .answer ≡ C.Accepted → Read s (d .policy)
+read-policy s d e f =
+    let card = answered s d C.Accepted e f in
+    let same : d .policy ≡ policyOf s = ap (λ (x : Decoded). x .policy) e ∙ decoded s card in
+    record { card = card; same = same; proper = subst Proper (sym same) (accepted s card) }

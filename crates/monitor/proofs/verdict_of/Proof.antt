@@ -1,0 +1,20 @@
+-- A code other than 1 and 2 reads as unknown.
+-- Assumes nothing.
+use Rattle.monitor.proofs.Looking.{blank}
+use borrow.Author.Needs.{needs}
+use Rattle.monitor.proofs.verdict_of.Statement.{statement}
+use Rattle.monitor.proofs.verdict_of.Tie as tie
+use Rattle.monitor.proofs.verdict_of.Reads as reads
+use Rattle.monitor.proofs.verdict_of.Lts as lts
+
+returns : tie.Need-returns
+returns c = search needs
+
+returns-2 : tie.Need-returns-2
+returns-2 c = search needs
+
+returns-3 : tie.Need-returns-3
+returns-3 c = blank (c .before .before .args .code) (c .before .if1 .left) (c .if2 .left)
+
+pub verdict-of-spec : {M : Type 1} → statement M
+verdict-of-spec = tie.close (tie.spec returns returns-2 returns-3)

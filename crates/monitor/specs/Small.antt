@@ -1,0 +1,120 @@
+-- 01, "A small shift to check by": the starred cases, jointly, from the bytes of 01 to the verdict sheet and the refusals. They hold whatever the
+-- buffers held before the opening.
+use Prim.Native.Nat.{ℕ}
+use mathlib.Core.Path.{_≡_, sym, ap, _∙_}
+use mathlib.Core.List.{List, [], _∷_, map}
+use Rattle.bits.specs.Digits.{digit, below, expanded}
+use Rattle.bits.specs.Bits.{bit}
+use Rattle.refusal.specs.declared.Refusal.the-variants.{BadMessage, Conflict}
+use Rattle.mtl.specs.Reading.{since, until, deep, reading}
+use Rattle.policy.specs.Format.{lineLength, fieldsAt, allowed, operandsGood, goodLine, meaning, formulaOf, subformulaOf, subformulaAt, headingAnswer, offset, lineAnswer, linesAnswer, linesUpTo, subformulasOf, ruleLines, rulesUpTo, closingAnswer, answerOf as policy-answer, policyOf}
+use Rattle.message.specs.Format.{componentOf, minuteOf, numberOf, namedOf, packedOf, valuesOf, lengthOf, fieldsOf, goodAlive, goodObservation, allWritten, goodFields, answerOf as message-answer, eventIn}
+use Rattle.message.specs.Fixes.{meaningOf}
+use Rattle.knowledge.specs.Knowledge.{noted, valued, number, is-point, is-none, sound, fresh, stored, free, admits}
+use Rattle.valuation.specs.Sheets.{valuation-of, verdicts-of, standing}
+use Rattle.monitor.specs.declared.Answer.{Answer}
+use Rattle.monitor.specs.declared.Answer.the-variants.{Done, Received, Refused}
+use Rattle.monitor.specs.State.{State, sizes-fit, opened, open-state, receive, Receive, run, after}
+use Rattle.monitor.specs.Proved.{opens}
+
+-- "mark 0 at some time in the last 2 minutes"
+abbrev K : List ℕ
+K = 0x01 ∷ 0x01 ∷ 0x04 ∷ 0x00 ∷ 0x03 ∷ 0x00 ∷ 0x01 ∷ 0x01 ∷ 0x35 ∷ 0x04 ∷ 0x01 ∷ 0x02 ∷ 0x00 ∷ []
+
+-- K with another last line, "mark 0 within the next minute"
+abbrev U : List ℕ
+U = 0x01 ∷ 0x01 ∷ 0x04 ∷ 0x00 ∷ 0x03 ∷ 0x00 ∷ 0x01 ∷ 0x01 ∷ 0x35 ∷ 0x05 ∷ 0x01 ∷ 0x01 ∷ 0x00 ∷ []
+
+abbrev A : List ℕ
+A = 0x0C ∷ 0x01 ∷ 0x00 ∷ 0x01 ∷ 0x00 ∷ 0x00 ∷ 0x00 ∷ 0x00 ∷ []
+
+abbrev B : List ℕ
+B = 0x0E ∷ 0x02 ∷ 0x00 ∷ 0x02 ∷ 0x00 ∷ 0x01 ∷ 0x00 ∷ 0x00 ∷ 0x00 ∷ 0x01 ∷ []
+
+abbrev D : List ℕ
+D = 0x06 ∷ 0x03 ∷ 0x00 ∷ 0x03 ∷ 0x00 ∷ []
+
+-- A with last byte 01
+abbrev A′ : List ℕ
+A′ = 0x0C ∷ 0x01 ∷ 0x00 ∷ 0x01 ∷ 0x00 ∷ 0x00 ∷ 0x00 ∷ 0x01 ∷ []
+
+-- a false mark at minute 3, or at minute 2, the station's first observation; and alive at minute 4 after one
+abbrev false-at-3 : List ℕ
+false-at-3 = 0x0E ∷ 0x03 ∷ 0x00 ∷ 0x01 ∷ 0x00 ∷ 0x01 ∷ 0x00 ∷ 0x00 ∷ 0x00 ∷ 0x00 ∷ []
+
+abbrev false-at-2 : List ℕ
+false-at-2 = 0x0E ∷ 0x02 ∷ 0x00 ∷ 0x01 ∷ 0x00 ∷ 0x01 ∷ 0x00 ∷ 0x00 ∷ 0x00 ∷ 0x00 ∷ []
+
+abbrev alive-at-4 : List ℕ
+alive-at-4 = 0x16 ∷ 0x04 ∷ 0x00 ∷ 0x01 ∷ 0x00 ∷ []
+
+-- the verdict sheet after the takes of a list, and the answer to one more
+abbrev sheet : List ℕ → State → List (List ℕ) → List ℕ
+sheet s x bs = after s x bs .verdicts
+
+abbrev reply : List ℕ → State → List (List ℕ) → List ℕ → Answer
+reply s x bs b = receive s (after s x bs) b .answer
+
+abbrev row : ℕ → ℕ → ℕ → ℕ → List ℕ
+row a b c d = a ∷ b ∷ c ∷ d ∷ []
+
+-- x are the buffers before the opening under K, y those before the opening under U
+pub record Small-shift (x y : State) : Type 0 where
+  pub nothing : sheet K x [] ≡ row 0 0 0 0
+  pub a : sheet K x (A ∷ []) ≡ row 2 0 0 0
+  pub b : sheet K x (B ∷ []) ≡ row 0 0 1 0
+  pub ab : sheet K x (A ∷ B ∷ []) ≡ row 2 0 1 0
+  pub ba : sheet K x (B ∷ A ∷ []) ≡ row 2 0 1 0
+  pub abd : sheet K x (A ∷ B ∷ D ∷ []) ≡ row 2 0 1 1
+  pub d : sheet K x (D ∷ []) ≡ row 0 0 0 0
+  -- `10` is taken and changes nothing
+  pub idle : reply K x [] (0x10 ∷ []) ≡ Received 0
+  pub idle-state : after K x ((0x10 ∷ []) ∷ []) ≡ after K x []
+  -- `00` is 8, `04 02 00` is 9, and after A `12 01 00` is 9 and so is A with last byte 01
+  pub bad : reply K x [] (0x00 ∷ []) ≡ Refused BadMessage
+  pub conflict : reply K x [] (0x04 ∷ 0x02 ∷ 0x00 ∷ []) ≡ Refused Conflict
+  pub conflict-alive : reply K x (A ∷ []) (0x12 ∷ 0x01 ∷ 0x00 ∷ []) ≡ Refused Conflict
+  pub conflict-fact : reply K x (A ∷ []) A′ ≡ Refused Conflict
+  -- 65535 is well-formed and no count
+  pub conflict-none : reply K x [] (0x16 ∷ 0x04 ∷ 0x00 ∷ 0xFF ∷ 0xFF ∷ []) ≡ Refused Conflict
+  -- how many verdicts stand
+  pub total : reply K x (A ∷ B ∷ []) D ≡ Received 3
+  -- a false mark at a busy minute 3 gives blank; at minute 2 with minute 3 quiet, broken
+  pub until-blank : sheet U y (false-at-3 ∷ []) ≡ row 0 0 0 0
+  pub until-broken : sheet U y (false-at-2 ∷ alive-at-4 ∷ []) ≡ row 0 0 2 0
+
+-- each case, from the opened state on
+module _ (s : List ℕ) (x : State) (e : open-state s x .state ≡ opened (policyOf s)) where
+  sheet-from : (bs : List (List ℕ)) → sheet s x bs ≡ run s (opened (policyOf s)) (map Receive bs) .verdicts
+  sheet-from bs = ap (λ (y : State). run s y (map Receive bs) .verdicts) e
+
+  state-from : (bs : List (List ℕ)) → after s x bs ≡ run s (opened (policyOf s)) (map Receive bs)
+  state-from bs = ap (λ (y : State). run s y (map Receive bs)) e
+
+  reply-from : (bs : List (List ℕ)) (b : List ℕ) → reply s x bs b ≡ receive s (run s (opened (policyOf s)) (map Receive bs)) b .answer
+  reply-from bs b = ap (λ (y : State). receive s (run s y (map Receive bs)) b .answer) e
+
+pub small-shift : (x y : State) → open-state K x .answer ≡ Done → open-state U y .answer ≡ Done → Small-shift x y
+unfolding digit below expanded bit since until deep reading lineLength fieldsAt allowed operandsGood goodLine meaning formulaOf subformulaOf subformulaAt headingAnswer offset lineAnswer linesAnswer linesUpTo subformulasOf ruleLines rulesUpTo closingAnswer policy-answer policyOf componentOf minuteOf numberOf namedOf packedOf valuesOf lengthOf fieldsOf goodAlive goodObservation allWritten goodFields message-answer eventIn meaningOf noted valued number is-point is-none sound fresh stored free admits valuation-of verdicts-of standing sizes-fit opened receive
+small-shift x y d e =
+    let k : open-state K x .state ≡ opened (policyOf K) = opens K x d .state in
+    let u : open-state U y .state ≡ opened (policyOf U) = opens U y e .state in
+    record {
+      nothing = sheet-from K x k [];
+      a = sheet-from K x k (A ∷ []);
+      b = sheet-from K x k (B ∷ []);
+      ab = sheet-from K x k (A ∷ B ∷ []);
+      ba = sheet-from K x k (B ∷ A ∷ []);
+      abd = sheet-from K x k (A ∷ B ∷ D ∷ []);
+      d = sheet-from K x k (D ∷ []);
+      idle = reply-from K x k [] (0x10 ∷ []);
+      idle-state = state-from K x k ((0x10 ∷ []) ∷ []) ∙ sym (state-from K x k []);
+      bad = reply-from K x k [] (0x00 ∷ []);
+      conflict = reply-from K x k [] (0x04 ∷ 0x02 ∷ 0x00 ∷ []);
+      conflict-alive = reply-from K x k (A ∷ []) (0x12 ∷ 0x01 ∷ 0x00 ∷ []);
+      conflict-fact = reply-from K x k (A ∷ []) A′;
+      conflict-none = reply-from K x k [] (0x16 ∷ 0x04 ∷ 0x00 ∷ 0xFF ∷ 0xFF ∷ []);
+      total = reply-from K x k (A ∷ B ∷ []) D;
+      until-blank = sheet-from U y u (false-at-3 ∷ []);
+      until-broken = sheet-from U y u (false-at-2 ∷ alive-at-4 ∷ []);
+    }

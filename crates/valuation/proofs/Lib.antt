@@ -1,0 +1,10 @@
+pub mod Folds
+pub mod Steps
+pub mod Shown
+pub mod Facts
+pub mod Since
+pub mod Until
+pub mod Work
+pub mod Standing
+pub mod Rules
+pub mod Concluding

@@ -1,0 +1,149 @@
+-- A subformula's row is worked from earlier rows because the reading is: inside the window each value is made of its operands' values, and
+-- outside everything is unknown, as it is past the end of a row. Assumes nothing.
+use Prim.Native.Nat.{ℕ, suc, _+_, _-_, _*_, _/_, _%_, _≤_, _<_}
+use native.Mathlib.Omega.{arith}
+use native.Mathlib.Decide.{decLt}
+use mathlib.Core.Path.{_≡_, refl, sym, ap, ap₂, subst, _∙_}
+use mathlib.Core.Bool.{true, false}
+use mathlib.Core.List.{List, _++_}
+use lib.ListN.{getD, length, take, drop, length-append, length-take, length-drop, List·getD-eq-default}
+use lib.Seq.{length-take-le, getD-take, getD-drop, drop-drop}
+use borrow.Author.Tests.{lt-ltb, le-ltb}
+use Rattle.kleene.specs.Truth.{Truth, unknown, codeOf, valueOf, value-of-code}
+use Rattle.rows.specs.Over.{Over}
+use Rattle.rows.specs.Laws.{two}
+use Rattle.rows.specs.Grid.{row-of, place-of, next-row}
+use Rattle.rows.specs.Parts.{put-in}
+use Rattle.mtl.specs.Algebra.{three}
+use Rattle.mtl.specs.declared.Formula.{Formula}
+use Rattle.mtl.specs.declared.Formula.the-variants.{True, Proposition, Not, Or, Since, Until}
+use Rattle.mtl.specs.Syntax.{Earlier, Proposes}
+use Rattle.mtl.specs.Reading.{point, seen, meaning, reading}
+use Rattle.mtl.specs.Related.{operands-map}
+use Rattle.mtl.specs.Unroll.{unroll}
+use Rattle.policy.specs.declared.Sizes.{Sizes}
+use Rattle.policy.specs.declared.Policy.{Policy}
+use Rattle.policy.specs.Proper.{Proper, formulaAt}
+use Rattle.knowledge.specs.Knowledge.{Knowledge, point-known, world}
+use Rattle.valuation.specs.Sheets.{value}
+use Rattle.valuation.specs.Rows.{Shows, Row, run, Rows, Points, Workable}
+
+-- ---- one row of several
+
+module _ (m : ℕ) (l r : List ℕ) (i : ℕ) (here : r ≡ run m l i) (there : i * m + m ≤ length l) where
+  pub run-length : length r ≡ m
+  run-length = ap length here ∙ length-take-le m (drop (i * m) l) (simp length-drop (omega arith))
+
+  pub run-shows : (v : ℕ → ℕ → Truth) → Rows m l v → Shows r (v i)
+  run-shows v h = subst (λ (s : List ℕ). Shows s (v i)) (sym here) (h i there)
+
+-- ---- the window
+
+module _ (z : Sizes) (k : Knowledge) where
+  pub in-window : (t : ℕ) (x : Truth) → t < z .minutes → seen (world z k) t x ≡ x
+  in-window t x h = rw (lt-ltb t (z .minutes) h, seen) refl
+
+  pub off-window : (t : ℕ) (x : Truth) → z .minutes ≤ t → seen (world z k) t x ≡ unknown
+  off-window t x h = rw (le-ltb t (z .minutes) h, seen) refl
+
+  -- a list that holds f's codes in the window, and is no longer
+  pub shows : (l : List ℕ) (f : ℕ → Truth) → length l ≡ z .minutes → ((t : ℕ) → t < z .minutes → getD l t 0 ≡ codeOf (f t))
+      → ((t : ℕ) → z .minutes ≤ t → f t ≡ unknown) → Shows l f
+  shows l f e h o t = go (decLt t (z .minutes))
+    where
+      go : Dec (t < z .minutes) → valueOf (getD l t 0) ≡ f t
+      go (yes w) = ap valueOf (h t w) ∙ value-of-code (f t)
+      go (no w) = ap valueOf (List·getD-eq-default l 0 (omega arith)) ∙ sym (o t (omega arith))
+
+  pub points-show : (n : ℕ) (l : List ℕ) → n ≡ z .minutes → n ≤ length l → Points z k l → Shows (take n l) (point three (world z k))
+  points-show n l e h p =
+      shows (take n l) (point three (world z k)) (length-take-le n l h ∙ e)
+      (λ t w. getD-take n l t 0 (omega arith) ∙ p t w ∙ ap codeOf (sym (in-window t (point-known z k t) w)))
+      (λ t w. off-window t (point-known z k t) w)
+
+-- ---- the rows of the work sheet
+
+-- the cell of the work sheet, laid out flat
+abbrev pub cell : Policy → Knowledge → ℕ → ℕ
+cell p k i = codeOf (value p k (i / p .sizes .minutes) (i % p .sizes .minutes))
+
+pub cell-at : (p : Policy) (k : Knowledge) (i t : ℕ) → t < p .sizes .minutes → cell p k (i * p .sizes .minutes + t) ≡ codeOf (value p k i t)
+cell-at p k i t h = ap₂ (λ (a b : ℕ). codeOf (value p k a b)) (row-of (p .sizes .minutes) i t h) (place-of (p .sizes .minutes) i t h)
+
+module _ (p : Policy) (k : Knowledge) (earlier : Earlier (formulaAt p)) where
+  pub value-off : (i t : ℕ) → p .sizes .minutes ≤ t → value p k i t ≡ unknown
+  value-off i t h = unroll three (world (p .sizes) k) (formulaAt p) earlier i t ∙ off-window (p .sizes) k t _ h
+
+  -- the rows that are written show their subformulas' values
+  pub rows-show : (end : ℕ) (old new : List ℕ) → end ≤ length new → Over (cell p k) 0 end old new
+      → Rows (p .sizes .minutes) (take end new) (value p k)
+  rows-show end old new l o i h =
+      let m = p .sizes .minutes in
+      let front : length (take end new) ≡ end = length-take-le end new l in
+      shows (p .sizes) k (run m (take end new) i) (value p k i)
+      (run-length m (take end new) (run m (take end new) i) i refl h)
+      (λ t w.
+      let under : i * m + t < end = omega arith in
+      getD-take m (drop (i * m) (take end new)) t 0 w
+      ∙ getD-drop (i * m) (take end new) t 0
+      ∙ getD-take end new (i * m + t) 0 under
+      ∙ o .inside (i * m + t) (omega arith) under
+      ∙ cell-at p k i t w)
+      (λ t w. value-off i t w)
+
+  -- the row that was worked for subformula i holds its cells
+  pub row-cells : (i : ℕ) (r : List ℕ) → Row (p .sizes .minutes) (meaning three (world (p .sizes) k) (value p k) (formulaAt p i)) r
+      → (t : ℕ) → t < p .sizes .minutes → getD r t 0 ≡ cell p k (i * p .sizes .minutes + t)
+  row-cells i r w t h =
+      w t h
+      ∙ ap codeOf (sym (unroll three (world (p .sizes) k) (formulaAt p) earlier i t ∙ in-window (p .sizes) k t _ h))
+      ∙ sym (cell-at p k i t h)
+
+-- ---- one row more
+
+proposes-more : (n most : ℕ) (φ : Formula) → n ≤ most → Proposes n φ → Proposes most φ
+proposes-more n most True l h = tt
+proposes-more n most (Proposition p) l h = omega arith
+proposes-more n most (Not i) l h = tt
+proposes-more n most (Or i j) l h = tt
+proposes-more n most (Since i j lower upper) l h = tt
+proposes-more n most (Until i j lower upper) l h = tt
+
+-- the part that was lent, given back
+pub given-back : (at m : ℕ) (xs ys : List ℕ) → take at xs ++ (ys ++ drop (at + m) xs) ≡ take at xs ++ (ys ++ drop (at + m - at) (drop at xs))
+given-back at m xs ys =
+    let n : at + m - at ≡ m = omega arith in
+    rw (n, drop-drop) refl
+
+pub back-length : (at m : ℕ) (xs ys : List ℕ) → at + m ≤ length xs → length ys ≡ length (take (at + m - at) (drop at xs))
+    → length (take at xs ++ (ys ++ drop (at + m - at) (drop at xs))) ≡ length xs
+back-length at m xs ys h e =
+    let k : length ys ≡ m = e ∙ simp (length-take, length-drop) (omega arith) in
+    simp (length-append, length-take, length-drop) (omega arith)
+
+module _ (p : Policy) (proper : Proper p) (i : ℕ) (under : i < p .count) where
+  pub workable : (points facts l : List ℕ) → length points ≡ 1024 → length facts ≡ 2 * p .sizes .minutes → length l ≡ i * p .sizes .minutes
+      → Workable (p .sizes) (formulaAt p i) points facts l
+  workable points facts l a b e =
+      record {
+        minutes = proper .minutes .high;
+        points = a;
+        facts = b;
+        operands = operands-map (formulaAt p i) (λ j h. rw e (next-row i (p .sizes .minutes) j h)) (proper .earlier i);
+        proposes = proposes-more (p .sizes .propositions) 32 (formulaAt p i) (proper .propositions .high) (proper .proposes i);
+        bounded = proper .bounded i;
+      }
+
+  pub next : (k : Knowledge) (at : ℕ) (old new row part run : List ℕ) → at ≡ i * p .sizes .minutes → p .count * p .sizes .minutes ≤ length new
+      → Over (cell p k) 0 at old new
+      → Row (p .sizes .minutes) (meaning three (world (p .sizes) k) (value p k) (formulaAt p i)) row
+      → part ≡ take (p .sizes .minutes) (drop at new)
+      → Over (λ t. getD row t 0) 0 (length part) part run
+      → Over (cell p k) 0 (at + p .sizes .minutes) old (take at new ++ (run ++ drop (at + p .sizes .minutes) new))
+  next k at old new row part run here room o r e w =
+      let m = p .sizes .minutes in
+      let fits : at + m ≤ length new = omega (arith, next-row (p .count) m i under) in
+      let long : length part ≡ m = ap length e ∙ length-take-le m (drop at new) (simp length-drop (omega arith)) in
+      two (cell p k) (cell p k) 0 at (at + m) old new (take at new ++ (run ++ drop (at + m) new)) o
+      (put-in (cell p k) at m new run fits (w .long ∙ long) (λ t h. w .inside t (omega arith) (omega arith) ∙ row-cells p k (proper .earlier) i row r t h ∙ ap (λ (j : ℕ). cell p k (j + t)) (sym here)))
+      (omega arith) (omega arith) (λ j a b. refl)

@@ -1,0 +1,96 @@
+-- Each batch has at most 20,480 differences. Assumes nothing.
+use Prim.Native.Nat.{_-_, _+_, _≤_}
+use mathlib.Core.Path.{_≡_}
+use lib.ListN.{length}
+use borrow.Author.Needs.{needs}
+use Prim.Native.Nat.{_*_}
+use Rattle.valuation_vectors.proofs.main.Statement.{statement}
+use Rattle.valuation_vectors.proofs.main.Tie as tie
+use Rattle.valuation_vectors.proofs.main.Reads as reads
+use Rattle.valuation_vectors.proofs.main.Lts as lts
+use Rattle.io.proofs.write_all.Reads as write-all-reads
+use Rattle.valuation_vectors.proofs.batch.Reads as batch-reads
+use Rattle.valuation_vectors.proofs.show.Reads as show-reads
+
+abbrev Inv-loop : tie.InvT-loop
+Inv-loop n₀ number₀ t3 t4 t5 n number = (number ≤ 60) × (n ≤ 20480 * number)
+
+abbrev μ-loop : tie.MeasureT-loop
+μ-loop n₀ number₀ t3 t4 t5 n number = 60 - number
+
+-- src/main.rt:440:5
+loop-holds : tie.Need-loop-holds Inv-loop μ-loop
+loop-holds c = search needs
+
+-- src/main.rt:441:14
+batch-requires : tie.Need-batch-requires Inv-loop μ-loop
+batch-requires c κs = search needs
+
+-- src/main.rt:441:9
+add-n : tie.Need-add-n Inv-loop μ-loop
+add-n c = search needs
+
+-- src/main.rt:442:9
+add-number : tie.Need-add-number Inv-loop μ-loop
+add-number c = search needs
+
+-- src/main.rt:440:5
+loop-less : tie.Need-loop-less Inv-loop μ-loop
+loop-less c = search needs
+
+-- src/main.rt:440:5
+loop-again : tie.Need-loop-again Inv-loop μ-loop
+loop-again c = search needs
+
+-- src/main.rt:444:10
+slice-aggregate-show : tie.Need-slice-aggregate-show Inv-loop μ-loop
+slice-aggregate-show c = search needs
+
+-- src/main.rt:444:20
+mul-show : tie.Need-mul-show Inv-loop μ-loop
+mul-show c = search needs
+
+-- src/main.rt:444:5
+show-requires : tie.Need-show-requires Inv-loop μ-loop
+show-requires c κs = search needs
+
+-- src/main.rt:445:10
+slice-aggregate-show-2 : tie.Need-slice-aggregate-show-2 Inv-loop μ-loop
+slice-aggregate-show-2 c = search needs
+
+-- src/main.rt:445:5
+show-requires-2 : tie.Need-show-requires-2 Inv-loop μ-loop
+show-requires-2 c κs = search needs
+
+-- src/main.rt:446:22
+slice-aggregate-write-all : tie.Need-slice-aggregate-write-all Inv-loop μ-loop
+slice-aggregate-write-all c = search needs
+
+-- src/main.rt:446:5
+write-all-requires : tie.Need-write-all-requires Inv-loop μ-loop
+write-all-requires c κs = search needs
+
+-- src/main.rt:437:1
+returns : tie.Need-returns Inv-loop μ-loop
+returns c = search needs
+
+pub main-spec : {M : Type 1} → statement M
+main-spec =
+    tie.close
+    (tie.spec
+    Inv-loop
+    μ-loop
+    loop-holds
+    batch-requires
+    add-n
+    add-number
+    loop-less
+    loop-again
+    slice-aggregate-show
+    mul-show
+    show-requires
+    slice-aggregate-show-2
+    show-requires-2
+    slice-aggregate-write-all
+    write-all-requires
+    returns)

@@ -1,0 +1,24 @@
+-- A remainder is below its divisor. Assumes nothing.
+use Prim.Native.Nat.{_-_, _+_, _≤_}
+use mathlib.Core.Path.{_≡_}
+use lib.ListN.{length}
+use borrow.Author.Needs.{needs}
+use Prim.Native.Nat.{_/_}
+use native.Mathlib.Nat.{mod-lt}
+use native.Mathlib.Omega.{arith}
+use borrow.Author.Needs.{needs}
+use Rattle.valuation_vectors.proofs.pick.Statement.{statement}
+use Rattle.valuation_vectors.proofs.pick.Tie as tie
+use Rattle.valuation_vectors.proofs.pick.Reads as reads
+use Rattle.valuation_vectors.proofs.pick.Lts as lts
+
+-- src/main.rt:130:6
+rem-result : tie.Need-rem-result
+rem-result c = search needs
+
+-- src/main.rt:126:1
+returns : tie.Need-returns
+returns c = mod-lt (c .args .x / 65536) (omega arith)
+
+pub pick-spec : {M : Type 1} → statement M
+pick-spec = tie.close (tie.spec rem-result returns)

@@ -1,0 +1,58 @@
+-- Each code is printed once. Assumes nothing.
+use Prim.Native.Nat.{_-_, _+_, _≤_}
+use mathlib.Core.Path.{_≡_}
+use lib.ListN.{length}
+use borrow.Author.Needs.{needs}
+use Rattle.valuation_vectors.proofs.show_codes.Statement.{statement}
+use Rattle.valuation_vectors.proofs.show_codes.Tie as tie
+use Rattle.valuation_vectors.proofs.show_codes.Reads as reads
+use Rattle.valuation_vectors.proofs.show_codes.Lts as lts
+use Rattle.valuation_vectors.proofs.show_code.Reads as show-code-reads
+
+abbrev Inv-loop : tie.InvT-loop
+Inv-loop row t₀ t = t ≤ length row
+
+abbrev μ-loop : tie.MeasureT-loop
+μ-loop row t₀ t = length row - t
+
+-- src/main.rt:363:5
+loop-holds : tie.Need-loop-holds Inv-loop μ-loop
+loop-holds c = search needs
+
+-- src/main.rt:364:19
+shared-slice-read-show-code : tie.Need-shared-slice-read-show-code Inv-loop μ-loop
+shared-slice-read-show-code c = search needs
+
+-- src/main.rt:364:9
+show-code-requires : tie.Need-show-code-requires Inv-loop μ-loop
+show-code-requires c κs = search needs
+
+-- src/main.rt:365:9
+add-t : tie.Need-add-t Inv-loop μ-loop
+add-t c = search needs
+
+-- src/main.rt:363:5
+loop-less : tie.Need-loop-less Inv-loop μ-loop
+loop-less c = search needs
+
+-- src/main.rt:363:5
+loop-again : tie.Need-loop-again Inv-loop μ-loop
+loop-again c = search needs
+
+-- src/main.rt:361:1
+returns : tie.Need-returns Inv-loop μ-loop
+returns c = search needs
+
+pub show-codes-spec : {M : Type 1} → statement M
+show-codes-spec =
+    tie.close
+    (tie.spec
+    Inv-loop
+    μ-loop
+    loop-holds
+    shared-slice-read-show-code
+    show-code-requires
+    add-t
+    loop-less
+    loop-again
+    returns)
