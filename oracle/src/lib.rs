@@ -9,13 +9,29 @@
 //! | `truth` | the three truth values |
 //! | `encoding` | what the formats of policy and message share |
 //! | `policy`, `message` | the two readers |
+//! | `trace` | one run of the components, and what it could have sent |
+//! | `knowledge` | the four buffers: soundness, what a message fixes, conflicts, known time points |
+//! | `reading` | the three-valued and the two-valued reading, and the verdicts |
+//! | `monitor` | the calls: open, receive, lookup |
+//! | `program` | the printing program |
+//!
+//! A harness that links the monitor calls both with the same bytes and compares [`Answer`] and [`Buffers`]
+//! after every call.
 #![forbid(unsafe_code)]
 
 pub mod encoding;
+pub mod knowledge;
 pub mod message;
+pub mod monitor;
 pub mod policy;
+pub mod program;
+pub mod reading;
 pub mod refusal;
+pub mod trace;
 pub mod truth;
 
+pub use knowledge::Buffers;
+pub use monitor::{lookup, open, receive, Answer, Look};
 pub use policy::Policy;
+pub use program::program;
 pub use refusal::Refusal;
