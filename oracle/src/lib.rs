@@ -14,12 +14,16 @@
 //! | `reading` | the three-valued and the two-valued reading, and the verdicts |
 //! | `monitor` | the calls: open, receive, lookup |
 //! | `program` | the printing program |
+//! | `brute` | every trace of a tiny policy, and what must hold over all of them |
+//! | `generate` | random policies, messages, traces, damage and program inputs |
 //!
 //! A harness that links the monitor calls both with the same bytes and compares [`Answer`] and [`Buffers`]
 //! after every call.
 #![forbid(unsafe_code)]
 
+pub mod brute;
 pub mod encoding;
+pub mod generate;
 pub mod knowledge;
 pub mod message;
 pub mod monitor;
