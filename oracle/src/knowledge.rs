@@ -1,0 +1,196 @@
+//! The knowledge (record of document 01) in the lent buffers: when it is sound, what is known of each minute, and when
+//! a message conflicts with it.
+
+use crate::message::{Fixed, Message};
+use crate::policy::Policy;
+use crate::truth::Truth;
+
+/// The cell of a sequence number that is not known.
+pub const NOT_KNOWN: u16 = 65535;
+
+/// The four lent buffers. Sequence numbers and facts are the knowledge.
+#[derive(Clone, Debug, Default, PartialEq, Eq)]
+pub struct Buffers {
+    /// Counts: "stations times (M + 1), one run per station, the first place standing for before minute 0".
+    pub numbers: Vec<u16>,
+    /// "Two per minute, known marks and then their values."
+    pub facts: Vec<u32>,
+    /// Work sheet: "lines times M (0 unknown, 1 true, 2 false)".
+    pub valuation: Vec<u8>,
+    /// Verdict sheet: "rules times M (0 blank, 1 kept, 2 broken)".
+    pub verdicts: Vec<u8>,
+}
+
+impl Buffers {
+    /// Buffers of the exact sizes, every cell 0: not a fresh record, which opening makes.
+    pub fn sized(policy: &Policy) -> Buffers {
+        Buffers {
+            numbers: vec![0; policy.components * (policy.minutes + 1)],
+            facts: vec![0; 2 * policy.minutes],
+            valuation: vec![0; policy.subformulas.len() * policy.minutes],
+            verdicts: vec![0; verdicts_size(policy)],
+        }
+    }
+
+    /// Whether every buffer is of its exact size.
+    pub fn fit(&self, policy: &Policy) -> bool {
+        let exact = Buffers::sized(policy);
+        self.numbers.len() == exact.numbers.len()
+            && self.facts.len() == exact.facts.len()
+            && self.valuation.len() == exact.valuation.len()
+            && self.verdicts.len() == exact.verdicts.len()
+    }
+
+    /// The component's sequence number at a place, if known.
+    pub fn number(&self, policy: &Policy, component: usize, place: usize) -> Option<usize> {
+        let cell = self.numbers[component * (policy.minutes + 1) + place];
+        (cell != NOT_KNOWN).then_some(cell as usize)
+    }
+
+    /// The proposition's value at a minute, if known.
+    pub fn fact(&self, minute: usize, proposition: usize) -> Option<bool> {
+        let known = self.facts[2 * minute] >> proposition & 1 == 1;
+        let value = self.facts[2 * minute + 1] >> proposition & 1 == 1;
+        known.then_some(value)
+    }
+
+    /// The known sequence numbers of a component, each with its place.
+    pub fn known_numbers(&self, policy: &Policy, component: usize) -> Vec<(usize, usize)> {
+        (0..=policy.minutes).filter_map(|place| Some((place, self.number(policy, component, place)?))).collect()
+    }
+
+    /// Makes a fresh record: "only each first count is known, as 0; no facts".
+    pub fn forget(&mut self, policy: &Policy) {
+        self.numbers.fill(NOT_KNOWN);
+        for component in 0..policy.components {
+            self.numbers[component * (policy.minutes + 1)] = 0;
+        }
+        self.facts.fill(0);
+    }
+
+    /// "An accepted slip makes known in the record all that it fixes, at the values it fixes, and changes nothing else
+    /// in counts or facts."
+    pub fn learn(&mut self, policy: &Policy, message: &Message) {
+        let fixed = message.fixes();
+        for (place, number) in fixed.numbers {
+            self.numbers[message.component * (policy.minutes + 1) + place] = number as u16;
+        }
+        for (minute, proposition, value) in fixed.facts {
+            let bit = 1 << proposition;
+            self.facts[2 * minute] |= bit;
+            if value {
+                self.facts[2 * minute + 1] |= bit;
+            } else {
+                self.facts[2 * minute + 1] &= !bit;
+            }
+        }
+    }
+}
+
+/// The exact size of the verdicts.
+pub fn verdicts_size(policy: &Policy) -> usize {
+    policy.rules().len() * policy.minutes
+}
+
+/// "A record is sound if every first count is 0, any two known counts of one station at places a < b satisfy
+/// 0 ≤ later − earlier ≤ b − a, no value bit is 1 where its mark isn't known, and no mark beyond the card is known."
+pub fn sound(policy: &Policy, buffers: &Buffers) -> bool {
+    let numbers = (0..policy.components).all(|component| {
+        buffers.number(policy, component, 0) == Some(0) && steps_between(&buffers.known_numbers(policy, component))
+    });
+    let facts = (0..policy.minutes).all(|minute| {
+        (0..u32::BITS as usize).all(|bit| {
+            let known = buffers.facts[2 * minute] >> bit & 1 == 1;
+            let value = buffers.facts[2 * minute + 1] >> bit & 1 == 1;
+            (known || !value) && (bit < policy.propositions || !known)
+        })
+    });
+    numbers && facts
+}
+
+/// Whether any two of these (place, sequence number) pairs, at places a ≤ b, satisfy 0 ≤ later − earlier ≤ b − a. Two
+/// at the same place are then equal.
+fn steps_between(numbers: &[(usize, usize)]) -> bool {
+    numbers.iter().all(|(a, earlier)| {
+        numbers.iter().filter(|(b, _)| a <= b).all(|(b, later)| earlier <= later && later - earlier <= b - a)
+    })
+}
+
+/// Clash: "no shift fits record and slip". The knowledge is sound and the message well-formed.
+///
+/// The known numbers of the message's component and those that the message fixes are put together. There is a conflict
+/// exactly if two of them at places a ≤ b do not satisfy 0 ≤ later − earlier ≤ b − a, or the message fixes a fact
+/// against a known one. Why this is "no shift fits":
+///
+/// - In any trace a component's number grows from place a to place b by its observations at the minutes a to b − 1, at
+///   most one each, so by 0 to b − a; and a trace gives a proposition one value at a minute. Such a pair or such a fact
+///   therefore rules every trace out.
+/// - Otherwise take, for each component, its known (and now fixed) places in order; the first is place 0, with 0. From
+///   each, at (a, x), to the next, at (b, y), let it observe in the first y − x of the minutes a to b − 1, which
+///   are enough, and after the last place never. Components do not bear on each other, and soundness gives the same
+///   for those that sent nothing. Let each proposition have its known or fixed value, and be false elsewhere. This
+///   trace agrees with all.
+///
+/// A fixed number of 65535, which no cell could hold as known, is always a conflict: place 0 holds 0 and is at most
+/// 1,024 places away. `brute` checks all this against every trace of tiny policies.
+pub fn conflict(policy: &Policy, buffers: &Buffers, message: &Message) -> bool {
+    let Fixed { numbers, facts } = message.fixes();
+    let known = buffers.known_numbers(policy, message.component);
+    let together = [known, numbers].concat();
+    let against =
+        |(minute, proposition, value): &(usize, usize, bool)| buffers.fact(*minute, *proposition) == Some(!*value);
+    !steps_between(&together) || facts.iter().any(against)
+}
+
+/// "A minute t is known busy if some station's counts at t − 1 and t are both known and one apart."
+pub fn known_busy(policy: &Policy, buffers: &Buffers, minute: usize) -> bool {
+    (0..policy.components).any(|component| {
+        let before = buffers.number(policy, component, minute);
+        let at = buffers.number(policy, component, minute + 1);
+        matches!((before, at), (Some(before), Some(at)) if before.abs_diff(at) == 1)
+    })
+}
+
+/// "It is known quiet if every station has equal known counts at some a < t and some b ≥ t." Minute a is place a + 1,
+/// so that a < t are the places 0 to t, and b ≥ t those from t + 1 to M.
+pub fn known_quiet(policy: &Policy, buffers: &Buffers, minute: usize) -> bool {
+    (0..policy.components).all(|component| {
+        let number = |place| buffers.number(policy, component, place);
+        (0..=minute).any(|a| number(a).is_some() && (minute + 1..=policy.minutes).any(|b| number(a) == number(b)))
+    })
+}
+
+/// e of "The reading" at every minute of the policy: true, false or unknown for known busy, known quiet or open.
+pub fn time_points(policy: &Policy, buffers: &Buffers) -> Vec<Truth> {
+    let quiet = |minute| known_quiet(policy, buffers, minute);
+    (0..policy.minutes).map(|minute| time_point(policy, buffers, minute, quiet(minute))).collect()
+}
+
+fn time_point(policy: &Policy, buffers: &Buffers, minute: usize, quiet: bool) -> Truth {
+    match (known_busy(policy, buffers, minute), quiet) {
+        (true, _) => Truth::True,
+        (false, true) => Truth::False,
+        (false, false) => Truth::Unknown,
+    }
+}
+
+/// The same as `time_points`, for large policies. That an equal number stands at some b ≥ t is that the last place with
+/// that number is one of them, and the last place is looked up only once for each a.
+pub fn time_points_of_many(policy: &Policy, buffers: &Buffers) -> Vec<Truth> {
+    let mut quiet = vec![true; policy.minutes];
+    for component in 0..policy.components {
+        let known = buffers.known_numbers(policy, component);
+        let reach = last_places(&known);
+        for (minute, quiet) in quiet.iter_mut().enumerate() {
+            let spans = |((a, _), last): (&(usize, usize), &usize)| *a <= minute && minute < *last;
+            *quiet &= known.iter().zip(&reach).any(spans);
+        }
+    }
+    (0..policy.minutes).map(|minute| time_point(policy, buffers, minute, quiet[minute])).collect()
+}
+
+/// For each of these (place, number) pairs, the last place with the same number.
+fn last_places(known: &[(usize, usize)]) -> Vec<usize> {
+    let last = |number: usize| known.iter().rev().find(|(_, other)| *other == number).map(|(place, _)| *place);
+    known.iter().filter_map(|(_, number)| last(*number)).collect()
+}

@@ -1,0 +1,41 @@
+//! A second evaluator, written apart from the monitor and from document 01 alone, to compare the monitor with.
+//!
+//! It is meant to be read beside document 01: quantifiers are loops, sums are sums, and nothing is fast that need
+//! not be. Where a large policy would take minutes, a quicker form stands beside the plain one and is tested equal.
+//!
+//! | module | what it holds |
+//! |---|---|
+//! | `refusal` | the reasons to turn a call away |
+//! | `truth` | the three truth values |
+//! | `encoding` | what the formats of policy and message share |
+//! | `policy`, `message` | the two readers |
+//! | `trace` | one run of the components, and what it could have sent |
+//! | `knowledge` | the four buffers: soundness, what a message fixes, conflicts, known time points |
+//! | `reading` | the three-valued and the two-valued reading, and the verdicts |
+//! | `monitor` | the calls: open, receive, lookup |
+//! | `program` | the printing program |
+//! | `brute` | every trace of a tiny policy, and what must hold over all of them |
+//! | `generate` | random policies, messages, traces, damage and program inputs |
+//!
+//! A harness that links the monitor calls both with the same bytes and compares [`Answer`] and [`Buffers`]
+//! after every call.
+#![forbid(unsafe_code)]
+
+pub mod brute;
+pub mod encoding;
+pub mod generate;
+pub mod knowledge;
+pub mod message;
+pub mod monitor;
+pub mod policy;
+pub mod program;
+pub mod reading;
+pub mod refusal;
+pub mod trace;
+pub mod truth;
+
+pub use knowledge::Buffers;
+pub use monitor::{lookup, open, receive, Answer, Look};
+pub use policy::Policy;
+pub use program::program;
+pub use refusal::Refusal;

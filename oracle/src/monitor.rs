@@ -1,0 +1,104 @@
+//! The calls: open (opening), receive (take) and lookup (look), with their checks in document 01's order. A refusal
+//! writes nothing.
+
+use crate::knowledge::{conflict, sound, verdicts_size, Buffers};
+use crate::message;
+use crate::policy::{self, Policy};
+use crate::reading::{standing, valuation, valuation_of_many, verdicts, Verdict};
+use crate::refusal::*;
+
+/// What open and receive answer.
+#[derive(Clone, Copy, Debug, PartialEq, Eq)]
+pub enum Answer {
+    /// The opening is done.
+    Done,
+    /// The message is accepted, and so many verdicts stand.
+    Received(usize),
+    Refused(Refusal),
+}
+
+/// What lookup answers.
+#[derive(Clone, Copy, Debug, PartialEq, Eq)]
+pub enum Look {
+    Verdict(Verdict),
+    Refused(Refusal),
+}
+
+/// Policies of at most so many minutes are read by the plain sums, longer ones by the quicker form.
+const MINUTES_BY_SUMS: usize = 24;
+
+/// Opening: checks 1 to 5, then a fresh record, its reading, and blank verdicts, whatever the buffers held.
+pub fn open(policy: &[u8], buffers: &mut Buffers) -> Answer {
+    match checked_policy(policy, buffers) {
+        Err(refusal) => Answer::Refused(refusal),
+        Ok(policy) => {
+            buffers.forget(&policy);
+            buffers.valuation = read_all(&policy, buffers);
+            buffers.verdicts.fill(Verdict::Unknown.code());
+            Answer::Done
+        }
+    }
+}
+
+/// A take: checks 1 to 9, then what the message fixes is learnt and both sheets are rewritten whole.
+pub fn receive(policy: &[u8], message: &[u8], buffers: &mut Buffers) -> Answer {
+    match checked_message(policy, message, buffers) {
+        Err(refusal) => Answer::Refused(refusal),
+        Ok((policy, message)) => {
+            buffers.learn(&policy, &message);
+            buffers.valuation = read_all(&policy, buffers);
+            buffers.verdicts = verdicts(&policy, buffers, &buffers.valuation);
+            Answer::Received(standing(&buffers.verdicts))
+        }
+    }
+}
+
+/// A look: checks 1 to 5, the verdict sheet only, and then 10; it gives the code at rule times M + minute.
+pub fn lookup(policy: &[u8], verdicts: &[u8], rule: usize, minute: usize) -> Look {
+    match checked_cell(policy, verdicts, rule, minute) {
+        Err(refusal) => Look::Refused(refusal),
+        Ok(cell) => Look::Verdict(Verdict::from_code(verdicts[cell])),
+    }
+}
+
+/// Checks 1 to 5.
+fn checked_policy(policy: &[u8], buffers: &Buffers) -> Result<Policy, Refusal> {
+    let policy = policy::read(policy)?;
+    if !buffers.fit(&policy) {
+        return refuse(BUFFER_SIZE, 0);
+    }
+    Ok(policy)
+}
+
+/// Checks 1 to 9.
+fn checked_message(policy: &[u8], message: &[u8], buffers: &Buffers) -> Result<(Policy, message::Message), Refusal> {
+    let policy = checked_policy(policy, buffers)?;
+    if !sound(&policy, buffers) {
+        return refuse(CORRUPT_KNOWLEDGE, 0);
+    }
+    let message = message::read(&policy, message)?;
+    if conflict(&policy, buffers, &message) {
+        return refuse(CONFLICT, 0);
+    }
+    Ok((policy, message))
+}
+
+/// Checks 1 to 5 and 10 of a look, and the cell it looks at.
+fn checked_cell(policy: &[u8], verdicts: &[u8], rule: usize, minute: usize) -> Result<usize, Refusal> {
+    let policy = policy::read(policy)?;
+    if verdicts.len() != verdicts_size(&policy) {
+        return refuse(BUFFER_SIZE, 0);
+    }
+    if rule >= policy.rules().len() || minute >= policy.minutes {
+        return refuse(OUT_OF_RANGE, 0);
+    }
+    Ok(rule * policy.minutes + minute)
+}
+
+fn read_all(policy: &Policy, buffers: &Buffers) -> Vec<u8> {
+    if policy.minutes <= MINUTES_BY_SUMS {
+        valuation(policy, buffers)
+    } else {
+        valuation_of_many(policy, buffers)
+    }
+}

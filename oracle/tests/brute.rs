@@ -1,0 +1,111 @@
+//! The oracle against every trace of tiny policies.
+
+use oracle::brute::Bench;
+use oracle::generate::{self, Limits, Random, TINY};
+use oracle::{open, receive, Answer, Buffers};
+
+/// A bench of a random tiny policy, of at most so many bits of trace.
+fn bench(random: &mut Random, most_bits: usize) -> Bench {
+    loop {
+        let policy = generate::policy(random, &TINY);
+        let past = random.below(3);
+        let bits = (policy.minutes + past) * (policy.components + policy.propositions);
+        if bits <= most_bits {
+            return Bench::new(policy, past);
+        }
+    }
+}
+
+/// Mixed offers: of one trace, damaged, not of any trace, and of another trace.
+fn offers(random: &mut Random, bench: &Bench, count: usize) -> Vec<Vec<u8>> {
+    let one = bench.traces[random.below(bench.traces.len())].clone();
+    let other = bench.traces[random.below(bench.traces.len())].clone();
+    let mut offers = generate::offers(random, &bench.policy, &one, count);
+    offers.extend(generate::offers(random, &bench.policy, &other, count / 3));
+    random.shuffle(&mut offers);
+    offers
+}
+
+#[test]
+fn accepted_exactly_when_some_trace_could_have_sent_it_and_verdicts_are_every_traces() {
+    let mut random = Random::new(1);
+    for _ in 0..150 {
+        let bench = bench(&mut random, 12);
+        bench.check_textbook();
+        for _ in 0..12 {
+            bench.run(&offers(&mut random, &bench, 12));
+        }
+    }
+}
+
+#[test]
+fn more_traces_of_fewer_policies() {
+    let mut random = Random::new(2);
+    for _ in 0..4 {
+        let bench = bench(&mut random, 16);
+        bench.check_textbook();
+        for _ in 0..20 {
+            bench.run(&offers(&mut random, &bench, 10));
+        }
+    }
+}
+
+/// Both components, both propositions, all three minutes and two past: 2^20 traces.
+#[test]
+#[ignore = "takes long"]
+fn the_largest_tiny_policies() {
+    let mut random = Random::new(3);
+    for _ in 0..4 {
+        let sizes = Limits { subformulas: 6, ..TINY };
+        let bench = Bench::new(generate::policy_of(&mut random, &sizes, 3), 2);
+        bench.check_textbook();
+        for _ in 0..40 {
+            bench.run(&offers(&mut random, &bench, 14));
+        }
+    }
+}
+
+#[test]
+fn any_knowledge_is_sound_exactly_when_some_trace_agrees() {
+    let mut random = Random::new(4);
+    for _ in 0..60 {
+        let bench = bench(&mut random, 12);
+        for _ in 0..30 {
+            let trace = bench.traces[random.below(bench.traces.len())].clone();
+            let mut buffers = Buffers::sized(&bench.policy);
+            generate::sound_knowledge(&mut random, &bench.policy, &trace, &mut buffers);
+            if random.once_in(2) {
+                generate::damage_buffers(&mut random, &bench.policy, &mut buffers);
+            }
+            let offer = offers(&mut random, &bench, 1).swap_remove(0);
+            bench.run_from(&offer, buffers);
+        }
+    }
+}
+
+/// All offers are one trace's, so that all are accepted, and the order and repeats do not matter.
+#[test]
+fn shuffled_and_repeated_lists_of_one_trace_end_alike() {
+    let mut random = Random::new(5);
+    for limits in [TINY, generate::SMALL, generate::MEDIUM] {
+        for _ in 0..100 {
+            let policy = generate::policy(&mut random, &limits);
+            let trace = generate::trace(&mut random, &policy, 2);
+            let list = generate::messages(&mut random, &policy, &trace, 10);
+            let mut other = list.clone();
+            other.extend(&list[list.len() / 2..]);
+            random.shuffle(&mut other);
+            let bytes = generate::encode_policy(&policy);
+            let end = |messages: &[oracle::message::Message]| {
+                let mut buffers = Buffers::sized(&policy);
+                assert_eq!(open(&bytes, &mut buffers), Answer::Done);
+                for message in messages {
+                    let answer = receive(&bytes, &generate::encode_message(message), &mut buffers);
+                    assert!(matches!(answer, Answer::Received(_)));
+                }
+                buffers
+            };
+            assert_eq!(end(&list), end(&other));
+        }
+    }
+}
