@@ -32,7 +32,7 @@ use Rattle.monitor.specs.Runs.{sized-law}
 -- ---- which numbers the readers answer
 
 -- a refusal in the answer has a number from least to most
-abbrev Numbered : ℕ → ℕ → Checked → Type 0
+abbrev pub Numbered : ℕ → ℕ → Checked → Type 0
 Numbered least most C.Accepted = Unit
 Numbered least most (C.Refused r) = (least ≤ numberOf r) × (numberOf r ≤ most)
 
@@ -58,7 +58,7 @@ lines-numbered s (suc i) = go (linesAnswer s i) (lines-numbered s i) (leb (offse
     go C.Accepted n true false = omega arith
     go C.Accepted n true true = tt
 
-policy-numbered : (s : List ℕ) → Numbered 1 4 (policy-answer s)
+pub policy-numbered : (s : List ℕ) → Numbered 1 4 (policy-answer s)
 unfolding policy-answer closingAnswer
 policy-numbered s =
     go (leb 5 (length s)) (headingAnswer s) (heading-numbered s) (linesAnswer s (countOf s)) (lines-numbered s (countOf s))
@@ -100,7 +100,7 @@ same-refusal r q e = cc
 same-answer : (r q : Refusal) → C.Refused r ≡ C.Refused q → Refused r ≡ Refused q
 same-answer r q e = cc
 
-not-accepted : (r : Refusal) → C.Refused r ≡ C.Accepted → ⊥
+pub not-accepted : (r : Refusal) → C.Refused r ≡ C.Accepted → ⊥
 not-accepted r e = let z : _≡_ {A = ℕ} 0 1 = cc in omega arith
 
 -- what the policy's reader answered is what the call answers, where the reader refused

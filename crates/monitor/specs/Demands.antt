@@ -12,7 +12,7 @@ use lib.ListN.{getD, length}
 use Rattle.kleene.specs.Truth.{true3, false3, codeOf}
 use Rattle.mtl.specs.Textbook.{Holds}
 use Rattle.refusal.specs.declared.Refusal.{Refusal}
-use Rattle.refusal.specs.declared.Refusal.the-variants.{TruncatedPolicy, BadHeading, BadSubformula, RuleCount, BufferSize, CorruptKnowledge, TruncatedMessage, BadMessage, Conflict}
+use Rattle.refusal.specs.declared.Refusal.the-variants.{TruncatedPolicy, BadHeading, BadSubformula, RuleCount, BufferSize, CorruptKnowledge, TruncatedMessage, BadMessage, Conflict, OutOfRange}
 use Rattle.policy.specs.declared.Sizes.{Sizes}
 use Rattle.policy.specs.declared.Policy.{Policy}
 use Rattle.policy.specs.declared.Answer.the-variants as C
@@ -26,6 +26,10 @@ use Rattle.knowledge.specs.Knowledge.{Knowledge, none, noted, valued, fact, num
 use Rattle.valuation.specs.Sheets.{value, standing}
 use Rattle.monitor.specs.declared.Answer.{Answer}
 use Rattle.monitor.specs.declared.Answer.the-variants.{Done, Received, Refused}
+use Rattle.monitor.specs.declared.Verdict.{Verdict}
+use Rattle.monitor.specs.declared.Look.{Look}
+use Rattle.monitor.specs.declared.Look.the-variants as L
+use Rattle.monitor.specs.Lookup.{verdictOf, lookupOf}
 use Rattle.monitor.specs.State.{State, Outcome, Sized, open-state, receive, after, Taken, accepted}
 
 -- ---- words
@@ -114,9 +118,23 @@ pub record Take-causes (s : List ℕ) (x : State) (b : List ℕ) (o : Outcome) :
   pub taken : Taken (o .answer) ↔ (Passed s x × Well-formed (sizesOf s) b × Some-trace (sizesOf s) (x .known) (meaningOf b))
   pub unwritten : (r : Refusal) → o .answer ≡ Refused r → o .state ≡ x
 
+-- a look, whose answer is a: 1 to 5 (the verdict sheet only) and then 10
+pub record Look-causes (s verdicts : List ℕ) (rule minute : ℕ) (a : Look) : Type 0 where
+  pub one : (at : ℕ) → (a ≡ L.Refused (TruncatedPolicy at)) ↔ Cut s at
+  pub two : (at : ℕ) → (a ≡ L.Refused (BadHeading at)) ↔ Misheaded s at
+  pub three : (at : ℕ) → (a ≡ L.Refused (BadSubformula at)) ↔ Misformed s at
+  pub four : (a ≡ L.Refused RuleCount) ↔ (Whole s × (Between 1 8 (rulesUpTo s (countOf s)) → ⊥))
+  pub five : (a ≡ L.Refused BufferSize) ↔ (Policy-passed s × (length verdicts ≡ policyOf s .rules * sizesOf s .minutes → ⊥))
+  pub ten : (a ≡ L.Refused OutOfRange)
+      ↔ (Policy-passed s × (length verdicts ≡ policyOf s .rules * sizesOf s .minutes) × ((rule < policyOf s .rules) × (minute < sizesOf s .minutes) → ⊥))
+  pub shows : (v : Verdict) → (a ≡ L.Shows v)
+      ↔ (Policy-passed s × (length verdicts ≡ policyOf s .rules * sizesOf s .minutes) × (rule < policyOf s .rules) × (minute < sizesOf s .minutes)
+      × (v ≡ verdictOf (getD verdicts (rule * sizesOf s .minutes + minute) 0)))
+
 pub record Demand-1 : Type 0 where
   pub opening : (s : List ℕ) (x : State) → Opening-causes s x (open-state s x)
   pub take : (s : List ℕ) (x : State) (b : List ℕ) → Take-causes s x b (receive s x b)
+  pub look : (s verdicts : List ℕ) (rule minute : ℕ) → Look-causes s verdicts rule minute (lookupOf s verdicts rule minute)
 
 -- ---- demand 2
 

@@ -28,6 +28,7 @@ use Rattle.monitor.specs.Invariant.{Kept-up, long-of}
 use Rattle.monitor.specs.Keeping.{sheets-over, is-over, same-state}
 use Rattle.monitor.specs.Runs.{accept-law, from-open, start, stand, truth, all-up, all-taken}
 use Rattle.monitor.specs.Causes.{opening-causes, take-causes}
+use Rattle.monitor.specs.Looks.{look-causes}
 
 -- ---- what an accepted card gives
 
@@ -43,6 +44,7 @@ pub demand-1 : Demand-1
 demand-1 = record {
   opening = λ s x. opening-causes s x (policy-causes s);
   take = λ s x b. take-causes s x (policy-causes s) b (message-causes (sizesOf s) b) (limits s) (λ e. ranged s e b);
+  look = λ s v r t. look-causes s v r t (policy-causes s);
 }
 
 -- ---- demand 2
