@@ -1,0 +1,56 @@
+-- The number and the detail are those of the answer.
+-- Assumes nothing.
+use Rattle.monitor_c.proofs.Handing.{handed}
+use borrow.Author.Needs.{needs}
+use Rattle.monitor_c.proofs.zankezurt_open.Statement.{statement}
+use Rattle.monitor_c.proofs.zankezurt_open.Tie as tie
+use Rattle.monitor_c.proofs.zankezurt_open.Reads as reads
+use Rattle.monitor_c.proofs.zankezurt_open.Lts as lts
+use Rattle.monitor.proofs.open.Reads as open-reads
+use Rattle.monitor_c.proofs.answer_detail.Reads as answer-detail-reads
+use Rattle.monitor_c.proofs.answer_number.Reads as answer-number-reads
+
+-- src/lib.rt:71:9
+open-requires : tie.Need-open-requires
+open-requires c κs = search needs
+
+-- src/lib.rt:72:15
+answer-detail-requires : tie.Need-answer-detail-requires
+answer-detail-requires c κs = search needs
+
+-- src/lib.rt:73:5
+answer-number-requires : tie.Need-answer-number-requires
+answer-number-requires c κs = search needs
+
+-- src/lib.rt:60:1
+same-length : tie.Need-same-length
+same-length c = search needs
+
+-- src/lib.rt:60:1
+same-length-2 : tie.Need-same-length-2
+same-length-2 c = search needs
+
+-- src/lib.rt:60:1
+same-length-3 : tie.Need-same-length-3
+same-length-3 c = search needs
+
+-- src/lib.rt:60:1
+same-length-4 : tie.Need-same-length-4
+same-length-4 c = search needs
+
+-- src/lib.rt:60:1
+returns : tie.Need-returns
+returns c = handed _ _ _ _ _ (c .before .before .before .before .before .before .before .before .before .before .open .ensures) (c .before .answer-detail .ensures) (c .answer-number .ensures)
+
+pub zankezurt-open-spec : {M : Type 1} → statement M
+zankezurt-open-spec =
+    tie.close
+    (tie.spec
+    open-requires
+    answer-detail-requires
+    answer-number-requires
+    same-length
+    same-length-2
+    same-length-3
+    same-length-4
+    returns)

@@ -1,0 +1,40 @@
+-- What the exported calls give, for C and Rust: a number, a detail beside it, and the lent buffers.
+use Prim.Native.Nat.{ℕ}
+use Rattle.refusal.specs.Numbers.{numberOf, placeOf}
+use Rattle.monitor.specs.declared.Answer.{Answer}
+use Rattle.monitor.specs.declared.Answer.the-variants.{Done, Received, Refused}
+use Rattle.monitor.specs.declared.Look.{Look}
+use Rattle.monitor.specs.declared.Look.the-variants as L
+use Rattle.monitor.specs.State.{State, Outcome}
+use Rattle.monitor.specs.Lookup.{verdict-code}
+
+-- 0 where a call is not refused, and else the refusal's number
+abbrev pub number-of : Answer → ℕ
+number-of Done = 0
+number-of (Received n) = 0
+number-of (Refused r) = numberOf r
+
+-- how many verdicts stand after a take; of a refusal its place
+abbrev pub detail-of : Answer → ℕ
+detail-of Done = 0
+detail-of (Received n) = n
+detail-of (Refused r) = placeOf r
+
+-- the number, the detail, and the state it leaves
+pub record Returned : Type 0 where
+  pub number : ℕ
+  pub detail : ℕ
+  pub state : State
+
+-- a call's outcome as C sees it
+abbrev pub returned : Outcome → Returned
+returned o = record { number = number-of (o .answer); detail = detail-of (o .answer); state = o .state }
+
+-- the same for a look: the detail is the verdict's code (0 blank, 1 kept, 2 broken)
+abbrev pub look-number : Look → ℕ
+look-number (L.Shows v) = 0
+look-number (L.Refused r) = numberOf r
+
+abbrev pub look-detail : Look → ℕ
+look-detail (L.Shows v) = verdict-code v
+look-detail (L.Refused r) = placeOf r

@@ -1,0 +1,109 @@
+// The calls of monitor for C and Rust, on numbers and slices. Each gives a number, 0 where the call is not refused and else the refusal's, and
+// writes a detail: a refusal's place, how many verdicts stand after a take, the code of the verdict that a look shows.
+use monitor::Answer;
+use monitor::Look;
+use monitor::Verdict;
+ghost use mathlib.Core.Path.{_≡_};
+ghost use Rattle.monitor.specs.State.{lent, open-state, receive};
+ghost use Rattle.monitor.specs.Lookup.{verdict-code, lookupOf};
+ghost use Rattle.monitor_c.specs.Returned.{number-of, detail-of, Returned, returned, look-number, look-detail};
+
+fn answer_number(answer: Answer) -> u8
+    ensures { λ r. ⌜ r ≡ number-of answer ⌝ }
+{
+    match answer {
+        Answer::Done => 0,
+        Answer::Received { standing: _ } => 0,
+        Answer::Refused(r) => refusal::number(r),
+    }
+}
+
+fn answer_detail(answer: Answer) -> usize
+    ensures { λ r. ⌜ r ≡ detail-of answer ⌝ }
+{
+    match answer {
+        Answer::Done => 0,
+        Answer::Received { standing } => standing,
+        Answer::Refused(r) => refusal::place(r),
+    }
+}
+
+fn code_of(verdict: Verdict) -> usize
+    ensures { λ r. ⌜ r ≡ verdict-code verdict ⌝ }
+{
+    match verdict {
+        Verdict::Unknown => 0,
+        Verdict::Satisfied => 1,
+        Verdict::Violated => 2,
+    }
+}
+
+fn look_number(look: Look) -> u8
+    ensures { λ r. ⌜ r ≡ look-number look ⌝ }
+{
+    match look {
+        Look::Shows(_) => 0,
+        Look::Refused(r) => refusal::number(r),
+    }
+}
+
+fn look_detail(look: Look) -> usize
+    ensures { λ r. ⌜ r ≡ look-detail look ⌝ }
+{
+    match look {
+        Look::Shows(verdict) => code_of(verdict),
+        Look::Refused(r) => refusal::place(r),
+    }
+}
+
+// 01: an opening.
+#[no_mangle]
+pub extern "C" fn zankezurt_open(
+    policy: &[u8],
+    numbers: &mut [u16],
+    facts: &mut [u32],
+    valuation: &mut [u8],
+    verdicts: &mut [u8],
+    detail: &mut usize,
+) -> u8
+    ensures { λ r. ⌜ _≡_ {A = Returned} (record { number = r; detail = now (detail .exit); state = lent (now (numbers .exit)) (now (facts .exit)) (now (valuation .exit)) (now (verdicts .exit)) }) (returned (open-state (now (policy .entry)) (lent (now (numbers .entry)) (now (facts .entry)) (now (valuation .entry)) (now (verdicts .entry))))) ⌝ }
+{
+    let answer = monitor::open(policy, numbers, facts, valuation, verdicts);
+    *detail = answer_detail(answer);
+    answer_number(answer)
+}
+
+// 01: a take.
+#[no_mangle]
+pub extern "C" fn zankezurt_receive(
+    policy: &[u8],
+    message: &[u8],
+    numbers: &mut [u16],
+    facts: &mut [u32],
+    valuation: &mut [u8],
+    verdicts: &mut [u8],
+    detail: &mut usize,
+) -> u8
+    ensures { λ r. ⌜ _≡_ {A = Returned} (record { number = r; detail = now (detail .exit); state = lent (now (numbers .exit)) (now (facts .exit)) (now (valuation .exit)) (now (verdicts .exit)) }) (returned (receive (now (policy .entry)) (lent (now (numbers .entry)) (now (facts .entry)) (now (valuation .entry)) (now (verdicts .entry))) (now (message .entry)))) ⌝ }
+{
+    let answer = monitor::receive(policy, message, numbers, facts, valuation, verdicts);
+    *detail = answer_detail(answer);
+    answer_number(answer)
+}
+
+// 01: a look.
+#[no_mangle]
+pub extern "C" fn zankezurt_lookup(
+    policy: &[u8],
+    verdicts: &[u8],
+    rule: usize,
+    minute: usize,
+    detail: &mut usize,
+) -> u8
+    ensures { λ r. ⌜ r ≡ look-number (lookupOf (now (policy .entry)) (now (verdicts .entry)) rule minute) ⌝ }
+    ensures { λ _. ⌜ now (detail .exit) ≡ look-detail (lookupOf (now (policy .entry)) (now (verdicts .entry)) rule minute) ⌝ }
+{
+    let look = monitor::lookup(policy, verdicts, rule, minute);
+    *detail = look_detail(look);
+    look_number(look)
+}

@@ -1,0 +1,74 @@
+/* The calls of the proved runtime monitor for C, on x86-64: link libmonitor_c.a, which `rt staticlib monitor_c` writes.
+
+   A call gives 0, or the number of its refusal, and writes *detail: the place of a refusal (0 where it has none), how many
+   verdicts stand after zankezurt_receive, the verdict that zankezurt_lookup shows, 0 after zankezurt_open. Nothing is asked of
+   what the bytes and buffers hold, nor of their lengths, and a refused call changes no buffer.
+
+   What C itself asks of a caller: each pointer points to as many elements as its length says and is not NULL, even where the length
+   is 0; no two buffers that a call writes overlap, nor do they overlap what it reads or *detail. */
+#ifndef ZANKEZURT_H
+#define ZANKEZURT_H
+
+#include <stddef.h>
+#include <stdint.h>
+
+#ifdef __cplusplus
+extern "C" {
+#endif
+
+/* Why a call was turned away. Four reasons have a place, a byte of the policy or message. */
+enum zankezurt_refusal {
+    ZANKEZURT_ACCEPTED = 0,
+    ZANKEZURT_TRUNCATED_POLICY = 1, /* the policy ends early, or bytes follow its last line; its length, or the first extra byte */
+    ZANKEZURT_BAD_HEADING = 2,      /* a heading number out of range; the field's first byte */
+    ZANKEZURT_BAD_SUBFORMULA = 3,   /* a line breaks a rule of the format; its map byte */
+    ZANKEZURT_RULE_COUNT = 4,       /* no rule, or more than 8 */
+    ZANKEZURT_BUFFER_SIZE = 5,      /* a buffer is not of its exact size */
+    ZANKEZURT_CORRUPT_KNOWLEDGE = 6, /* numbers and facts are not sound */
+    ZANKEZURT_TRUNCATED_MESSAGE = 7, /* the message ends early, or bytes follow; its length, or the first extra byte */
+    ZANKEZURT_BAD_MESSAGE = 8,      /* the message breaks a rule of the format or a range of the policy */
+    ZANKEZURT_CONFLICT = 9,         /* no run of the components agrees with what is known and the message */
+    ZANKEZURT_OUT_OF_RANGE = 10     /* a look at a rule or minute that the policy does not have */
+};
+
+/* What the verdict sheet shows: blank, kept or broken. */
+enum zankezurt_verdict {
+    ZANKEZURT_UNKNOWN = 0,
+    ZANKEZURT_SATISFIED = 1,
+    ZANKEZURT_VIOLATED = 2
+};
+
+/* The exact lengths of the four buffers, in elements, from the sizes of the policy. */
+#define ZANKEZURT_NUMBERS_LENGTH(components, minutes) ((size_t)(components) * ((size_t)(minutes) + 1))
+#define ZANKEZURT_FACTS_LENGTH(minutes) (2 * (size_t)(minutes))
+#define ZANKEZURT_VALUATION_LENGTH(subformulas, minutes) ((size_t)(subformulas) * (size_t)(minutes))
+#define ZANKEZURT_VERDICTS_LENGTH(rules, minutes) ((size_t)(rules) * (size_t)(minutes))
+
+/* Opens the lent state under a policy, whatever the buffers held: nothing is known, and every verdict is blank. */
+uint8_t zankezurt_open(const uint8_t *policy, size_t policy_length,
+                       uint16_t *numbers, size_t numbers_length,
+                       uint32_t *facts, size_t facts_length,
+                       uint8_t *valuation, size_t valuation_length,
+                       uint8_t *verdicts, size_t verdicts_length,
+                       size_t *detail);
+
+/* Takes one message, of any bytes, into the lent state. */
+uint8_t zankezurt_receive(const uint8_t *policy, size_t policy_length,
+                          const uint8_t *message, size_t message_length,
+                          uint16_t *numbers, size_t numbers_length,
+                          uint32_t *facts, size_t facts_length,
+                          uint8_t *valuation, size_t valuation_length,
+                          uint8_t *verdicts, size_t verdicts_length,
+                          size_t *detail);
+
+/* The verdict of a rule at a minute, from the lent verdict sheet. */
+uint8_t zankezurt_lookup(const uint8_t *policy, size_t policy_length,
+                         const uint8_t *verdicts, size_t verdicts_length,
+                         size_t rule, size_t minute,
+                         size_t *detail);
+
+#ifdef __cplusplus
+}
+#endif
+
+#endif
