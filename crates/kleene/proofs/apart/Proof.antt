@@ -1,45 +1,28 @@
--- `kleene::apart` meets its contract: its table has the ranks, by one test over the whole table. Assumes nothing.
-use mathlib.Core.List.{List, [], _∷_}
-use mathlib.Core.Path.{ap₂, _∙_}
-use Rattle.kleene.specs.Truth.{Truth, valueOf, and3, not3}
+-- `kleene::apart` meets its contract: its two tests decide the rank. Assumes nothing.
+use Prim.Native.Nat.{ℕ}
+use mathlib.Core.Path.{_≡_}
+use mathlib.Core.Bool.{_&&_, _||_}
+use lib.Dec.{eqb}
+use Rattle.kleene.specs.Truth.{valueOf, not3, and3}
 use Rattle.kleene.specs.Rank.{rankOf}
-use Rattle.kleene.proofs.Table.{pair-rule}
-use borrow.Author.Needs.{needs}
+use Rattle.kleene.proofs.Ranks.{ranked, rank-of, rank-of-not, rank-of-both, is-false, is-true, is-neither}
 use Rattle.kleene.proofs.apart.Statement.{statement}
 use Rattle.kleene.proofs.apart.Tie as tie
 use Rattle.kleene.proofs.apart.Reads as reads
 use Rattle.kleene.proofs.apart.Lts as lts
-use Rattle.kleene.proofs.index.Reads as index-reads
 
--- src/lib.rt:61:11
-index-requires : tie.Need-index-requires
-index-requires c κs = search needs
+rule : (x y : ℕ) → rankOf (and3 (valueOf x) (not3 (valueOf y))) ≡ ranked (eqb x 2 || eqb y 1) (eqb x 1 && eqb y 2)
+rule x y = rank-of-both (valueOf x) (not3 (valueOf y)) _ _ _ _ (rank-of x) (rank-of-not y)
 
--- src/lib.rt:61:21
-index-requires-2 : tie.Need-index-requires-2
-index-requires-2 c κs = search needs
-
--- src/lib.rt:61:5
-mul-result : tie.Need-mul-result
-mul-result c = search needs
-
--- src/lib.rt:61:5
-index-1-result : tie.Need-index-1-result
-index-1-result c = search needs
-
--- src/lib.rt:61:5
-index-2-result : tie.Need-index-2-result
-index-2-result c = search needs
-
--- src/lib.rt:58:1
+-- src/lib.rt
 returns : tie.Need-returns
-unfolding rankOf
-returns c =
-    let i = c .before .before .index in
-    let j = c .before .index2 in
-    pair-rule (λ a b. rankOf (and3 (valueOf a) (not3 (valueOf b)))) ((1 ∷ 0 ∷ 1 ∷ []) ∷ (1 ∷ 0 ∷ 2 ∷ []) ∷ (0 ∷ 0 ∷ 0 ∷ []) ∷ []) tt (i .result) (j .result) (i .ensures .0) (j .ensures .0) ∙ ap₂ (λ (v w : Truth). rankOf (and3 v (not3 w))) (i .ensures .1) (j .ensures .1)
+returns c = is-false _ _ _ (rule (c .before .args .x) (c .before .args .y)) (c .if1 .taken)
+
+returns-2 : tie.Need-returns-2
+returns-2 c = is-true _ _ _ (rule (c .before .before .args .x) (c .before .before .args .y)) (c .before .if1 .left) (c .if2 .taken)
+
+returns-3 : tie.Need-returns-3
+returns-3 c = is-neither _ _ _ (rule (c .before .before .args .x) (c .before .before .args .y)) (c .before .if1 .left) (c .if2 .left)
 
 pub apart-spec : {M : Type 1} → statement M
-apart-spec =
-    tie.close
-    (tie.spec index-requires index-requires-2 mul-result index-1-result index-2-result returns)
+apart-spec = tie.close (tie.spec returns returns-2 returns-3)

@@ -1,0 +1,9 @@
+//! Measures a take of the monitor beside three others: the same algorithm in safe Rust, the direct reading of the definition,
+//! and the floor, which only writes each cell of both sheets once.
+
+pub mod contender;
+pub mod growth;
+pub mod instructions;
+pub mod plain;
+pub mod timing;
+pub mod workload;

@@ -1,0 +1,94 @@
+//! Prints what a take costs: `bench`, or `bench take NAME COUNT` for the takes alone.
+
+use bench::contender::{Contender, ALL};
+use bench::growth::{points, slope, straight, Point};
+use bench::instructions;
+use bench::timing::{in_turns, ratios, Spread};
+use bench::workload::{Shape, Workload, LARGEST};
+use std::env::args;
+
+const SAMPLES: usize = 41;
+const MICRO: f64 = 1e6;
+
+fn main() {
+    let words: Vec<String> = args().skip(1).collect();
+    match words.iter().map(String::as_str).collect::<Vec<_>>()[..] {
+        [] => report(),
+        ["take", name, count] => takes(name, count.parse().expect("a count")),
+        _ => panic!("usage: bench [take NAME COUNT]"),
+    }
+}
+
+fn takes(name: &str, count: usize) {
+    let contender = ALL.into_iter().find(|contender| contender.name() == name).expect("a contender's name");
+    let mut workload = Workload::new(&LARGEST);
+    for _ in 0..count {
+        contender.take(&mut workload);
+    }
+}
+
+fn report() {
+    let Shape { propositions, components, minutes, subformulas } = LARGEST;
+    println!("A take: {propositions} propositions, {components} components, {minutes} minutes, {subformulas} subformulas, full record\n");
+    compare();
+    count();
+    grow("minutes", &[64, 128, 256, 512, 1024], |minutes| Shape { minutes, ..LARGEST });
+    grow("subformulas", &[1, 2, 4, 8, 16, 32, 64], |subformulas| Shape { components: 1, subformulas, ..LARGEST });
+}
+
+/// The monitor beside the others.
+fn compare() {
+    let times = in_turns(&ALL, &mut Workload::new(&LARGEST), SAMPLES);
+    println!("{:<50} {:>12} {:>12} {:>12}   monitor / it: median (quartiles)", "", "least µs", "median µs", "most µs");
+    for (contender, times_of) in ALL.into_iter().zip(&times) {
+        let spread = Spread::of(times_of.clone());
+        let ratio = ratios(&times[0], times_of);
+        println!(
+            "{:<50} {:>12.1} {:>12.1} {:>12.1}   {:.4} ({:.4} to {:.4})",
+            contender.describe(),
+            spread.least() * MICRO,
+            spread.median() * MICRO,
+            spread.most() * MICRO,
+            ratio.median(),
+            ratio.quantile(0.25),
+            ratio.quantile(0.75),
+        );
+    }
+    println!();
+}
+
+/// Instructions of one take.
+fn count() {
+    let cells = LARGEST.minutes * LARGEST.subformulas;
+    for contender in [Contender::Monitor, Contender::Plain, Contender::Floor] {
+        match instructions::of_a_take(contender) {
+            Ok(count) => {
+                println!(
+                    "{:<50} {count:>12} instructions, {:.1} a cell of the work sheet",
+                    contender.describe(),
+                    count as f64 / cells as f64
+                )
+            }
+            Err(why) => println!("{:<50} not counted: {why}", contender.describe()),
+        }
+    }
+    println!();
+}
+
+/// Growth with one size, the others as they are.
+fn grow(name: &str, sizes: &[usize], shape: impl Fn(usize) -> Shape) {
+    let shapes: Vec<(usize, Shape)> = sizes.iter().map(|&size| (size, shape(size))).collect();
+    let measured = points(&shapes, SAMPLES);
+    println!("Growth with {name}: {} components", shapes[0].1.components);
+    for point in &measured {
+        println!("{:>12} {:>12.2} µs", point.size, point.time * MICRO);
+    }
+    let (start, _) = straight(&measured);
+    let rest: Vec<Point> = measured.iter().map(|p| Point { size: p.size, time: p.time - start }).collect();
+    println!(
+        "slope on logarithmic scales {:.3}; without what does not grow with it, {:.2} µs: {:.3}\n",
+        slope(&measured),
+        start * MICRO,
+        slope(&rest)
+    );
+}

@@ -1,0 +1,146 @@
+//! The two sheets: each row in one pass over the minutes.
+
+use super::policy::{Formula, Policy};
+
+const OR: [[u8; 3]; 3] = [[0, 1, 0], [1, 1, 1], [0, 1, 2]];
+const NOT: [u8; 3] = [0, 2, 1];
+fn table(table: &[[u8; 3]; 3], x: u8, y: u8) -> u8 {
+    table[x as usize][y as usize]
+}
+
+/// The rank (false 0, unknown 1, true 2) of `x and y`.
+fn both(x: u8, y: u8) -> u8 {
+    if (x == 2) | (y == 2) {
+        0
+    } else if (x == 1) & (y == 1) {
+        2
+    } else {
+        1
+    }
+}
+
+/// The rank of `x and not y`.
+fn apart(x: u8, y: u8) -> u8 {
+    if (x == 2) | (y == 1) {
+        0
+    } else if (x == 1) & (y == 2) {
+        2
+    } else {
+        1
+    }
+}
+
+/// The nearest minute at which something is surely so, and at which it may be so.
+#[derive(Clone, Copy)]
+struct Nearest {
+    sure: usize,
+    may: usize,
+}
+
+impl Nearest {
+    fn note(&mut self, here: usize, rank: u8) {
+        if rank >= 2 {
+            self.sure = here;
+        }
+        if rank >= 1 {
+            self.may = here;
+        }
+    }
+}
+
+fn code(sure: bool, may: bool) -> u8 {
+    if sure {
+        1
+    } else if may {
+        0
+    } else {
+        2
+    }
+}
+
+fn since_row(points: &[u8], left: &[u8], right: &[u8], lower: usize, upper: usize, row: &mut [u8]) {
+    let mut begins = Nearest { sure: 0, may: 0 };
+    let mut breaks = Nearest { sure: 0, may: 0 };
+    for t in 0..row.len() {
+        if let Some(j) = t.checked_sub(lower) {
+            begins.note(j + 1, both(points[j], right[j]));
+        }
+        breaks.note(t + 1, apart(points[t], left[t]));
+        let start = t.saturating_sub(upper);
+        let reaches = |begin, stop| begin > start && begin >= stop;
+        row[t] = code(reaches(begins.sure, breaks.may), reaches(begins.may, breaks.sure));
+    }
+}
+
+fn until_row(points: &[u8], left: &[u8], right: &[u8], lower: usize, upper: usize, row: &mut [u8]) {
+    let minutes = row.len();
+    let mut begins = Nearest { sure: usize::MAX, may: minutes + lower };
+    let mut breaks = Nearest { sure: usize::MAX, may: minutes };
+    for t in (0..minutes).rev() {
+        let j = t + lower;
+        let rank = if j < minutes { both(points[j], right[j]) } else { 1 };
+        begins.note(j, rank);
+        breaks.note(t, apart(points[t], left[t]));
+        let reaches = |begin, stop| begin <= t + upper && begin <= stop;
+        row[t] = code(reaches(begins.sure, breaks.may), reaches(begins.may, breaks.sure));
+    }
+}
+
+fn fact_code(known: u32, values: u32, proposition: u8) -> u8 {
+    if known >> proposition & 1 == 0 {
+        0
+    } else if values >> proposition & 1 == 0 {
+        2
+    } else {
+        1
+    }
+}
+
+/// Works every subformula's row from earlier ones.
+pub fn evaluate(policy: &Policy, points: &[u8], facts: &[u32], valuation: &mut [u8]) {
+    let minutes = policy.minutes;
+    for (i, line) in policy.subformulas().iter().enumerate() {
+        let (earlier, rest) = valuation.split_at_mut(i * minutes);
+        let row = &mut rest[..minutes];
+        let run = |i: u8| &earlier[i as usize * minutes..][..minutes];
+        match line.formula {
+            Formula::True => row.fill(1),
+            Formula::Proposition(proposition) => {
+                for (cell, words) in row.iter_mut().zip(facts.chunks_exact(2)) {
+                    *cell = fact_code(words[0], words[1], proposition);
+                }
+            }
+            Formula::Not(i) => {
+                for (cell, &x) in row.iter_mut().zip(run(i)) {
+                    *cell = NOT[x as usize];
+                }
+            }
+            Formula::Or(i, j) => {
+                for ((cell, &x), &y) in row.iter_mut().zip(run(i)).zip(run(j)) {
+                    *cell = table(&OR, x, y);
+                }
+            }
+            Formula::Since { left, right, lower, upper } => {
+                since_row(points, run(left), run(right), lower as usize, upper as usize, row)
+            }
+            Formula::Until { left, right, lower, upper } => {
+                until_row(points, run(left), run(right), lower as usize, upper as usize, row)
+            }
+        }
+    }
+}
+
+/// Writes the verdicts of every rule; gives how many stand.
+pub fn conclude(policy: &Policy, points: &[u8], valuation: &[u8], verdicts: &mut [u8]) -> usize {
+    let minutes = policy.minutes;
+    let rows = valuation.chunks_exact(minutes).zip(policy.subformulas());
+    let rules = rows.filter(|(_, line)| line.rule).map(|(row, _)| row);
+    let mut total = 0;
+    for (row, cells) in rules.zip(verdicts.chunks_exact_mut(minutes)) {
+        for ((cell, &value), &point) in cells.iter_mut().zip(row).zip(points) {
+            *cell = if point == 1 { value } else { 0 };
+            total += (*cell != 0) as usize;
+        }
+    }
+    total
+}

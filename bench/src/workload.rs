@@ -1,0 +1,82 @@
+//! What is measured: policies of chosen sizes, and records that know everything of a random trace.
+
+use oracle::generate::{encode_message, encode_policy, Random};
+use oracle::message::{Event, Message};
+use oracle::policy::{Formula, Policy, Subformula, Temporal, HIGHEST_BOUND, MOST_RULES};
+use oracle::Buffers;
+
+/// A take: the policy's and message's bytes, and the lent buffers.
+pub struct Workload {
+    pub policy: Policy,
+    pub encoded: Vec<u8>,
+    pub message: Vec<u8>,
+    pub buffers: Buffers,
+}
+
+#[derive(Clone, Copy)]
+pub struct Shape {
+    pub propositions: usize,
+    pub components: usize,
+    pub minutes: usize,
+    pub subformulas: usize,
+}
+
+pub const LARGEST: Shape = Shape { propositions: 32, components: 16, minutes: 1024, subformulas: 64 };
+
+/// The dearest policy of a shape: a proposition, and from it on since and until by turns over random earlier lines and intervals. The
+/// last lines are rules.
+fn dearest_policy(random: &mut Random, shape: &Shape) -> Policy {
+    let first_rule = shape.subformulas - shape.subformulas.min(MOST_RULES);
+    let subformulas = (0..shape.subformulas)
+        .map(|line| Subformula { formula: formula(random, line, shape), rule: line >= first_rule })
+        .collect();
+    Policy { propositions: shape.propositions, components: shape.components, minutes: shape.minutes, subformulas }
+}
+
+fn formula(random: &mut Random, line: usize, shape: &Shape) -> Formula {
+    if line < 2 {
+        return Formula::Proposition(random.below(shape.propositions));
+    }
+    let lower = random.below(HIGHEST_BOUND / 2);
+    let upper = random.between(lower, HIGHEST_BOUND);
+    let parts = Temporal { first: random.below(line), second: random.below(line), lower, upper };
+    if line % 2 == 0 {
+        Formula::Since(parts)
+    } else {
+        Formula::Until(parts)
+    }
+}
+
+/// A full record: every sequence number and every fact is known. A minute is a time point about every other time.
+fn full_record(random: &mut Random, policy: &Policy) -> Buffers {
+    let mut buffers = Buffers::sized(policy);
+    for run in buffers.numbers.chunks_exact_mut(policy.minutes + 1) {
+        run[0] = 0;
+        for place in 1..run.len() {
+            let observed = random.once_in((policy.components * 3 / 2).max(2));
+            run[place] = run[place - 1] + observed as u16;
+        }
+    }
+    let all = ((1u64 << policy.propositions) - 1) as u32;
+    for words in buffers.facts.chunks_exact_mut(2) {
+        words[0] = all;
+        words[1] = random.word() as u32 & all;
+    }
+    buffers
+}
+
+/// An alive message of component 0 at the last minute that says again what the record knows.
+fn known_message(policy: &Policy, buffers: &Buffers) -> Message {
+    let minute = policy.minutes;
+    Message { component: 0, event: Event::Alive { minute, number: buffers.numbers[minute] as usize } }
+}
+
+impl Workload {
+    pub fn new(shape: &Shape) -> Workload {
+        let mut random = Random::new(2_026);
+        let policy = dearest_policy(&mut random, shape);
+        let buffers = full_record(&mut random, &policy);
+        let message = encode_message(&known_message(&policy, &buffers));
+        Workload { encoded: encode_policy(&policy), policy, message, buffers }
+    }
+}
