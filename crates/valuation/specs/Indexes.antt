@@ -2,7 +2,9 @@
 use Prim.Native.Nat.{ℕ, _+_, _≤_, _<_}
 use mathlib.Core.Path.{_≡_}
 use mathlib.Core.Bool.{cond}
+use mathlib.Core.List.{List}
 use lib.Dec.{leb}
+use lib.ListN.{getD}
 use Rattle.kleene.specs.Truth.{Truth, not3, and3}
 use Rattle.kleene.specs.Rank.{rankOf}
 use Rattle.valuation.specs.declared.Nearest.{Nearest}
@@ -14,6 +16,10 @@ begun e β j = rankOf (and3 (e j) (β j))
 -- e(s) and not α(s), where it breaks off: as a rank
 unfoldable pub broken : (ℕ → Truth) → (ℕ → Truth) → ℕ → ℕ
 broken e α s = rankOf (and3 (e s) (not3 (α s)))
+
+-- the first m cells are f's ranks
+abbrev pub Ranks : ℕ → (ℕ → ℕ) → List ℕ → Type 0
+Ranks m f r = (t : ℕ) → t < m → getD r t 0 ≡ f t
 
 -- an index once a minute of rank v is passed, whose own index is here
 abbrev pub moved : ℕ → ℕ → ℕ → ℕ → ℕ

@@ -18,7 +18,7 @@ ghost use Rattle.policy.specs.Proper.{Proper};
 ghost use Rattle.valuation.specs.Sheets.{valuation-of, verdicts-of, standing};
 ghost use Rattle.valuation.specs.Rows.{Shows, Row, run, Rows, Points, Workable};
 ghost use Rattle.valuation.specs.Verdicts.{verdict-code, one-stands, VerdictRow};
-ghost use Rattle.valuation.specs.Indexes.{begun, broken, moved, far, Last, First, Lasts, Firsts};
+ghost use Rattle.valuation.specs.Indexes.{begun, broken, Ranks, moved, far, Last, First, Lasts, Firsts};
 
 // The nearest minute at which a truth is surely so, and at which it may be so.
 pub struct Nearest {
@@ -58,18 +58,48 @@ fn code(sure: bool, may: bool) -> u8
     2
 }
 
+// ---- where a since or until may begin and break off, for all minutes at once before they are passed one by one
+
+// The rank of `e and right` at each minute: where it begins.
+fn begin_ranks(points: &[u8], right: &[u8]) -> [u8; 1024]
+    requires { ⌜ (length (now points) ≤ 1024) × (length (now right) ≡ length (now points)) ⌝ }
+    ensures { λ r. ⌜ (length r ≡ 1024) × ((e β : ℕ → Truth) → Shows (now (points .entry)) e → Shows (now (right .entry)) β → Ranks (length (now (points .entry))) (begun e β) r) ⌝ }
+{
+    let mut ranks = [0u8; 1024];
+    let mut t: usize = 0;
+    while t < points.len() {
+        ranks[t] = kleene::both(points[t], right[t]);
+        t += 1;
+    }
+    ranks
+}
+
+// The rank of `e and not left` at each minute: where it breaks off.
+fn break_ranks(points: &[u8], left: &[u8]) -> [u8; 1024]
+    requires { ⌜ (length (now points) ≤ 1024) × (length (now left) ≡ length (now points)) ⌝ }
+    ensures { λ r. ⌜ (length r ≡ 1024) × ((e α : ℕ → Truth) → Shows (now (points .entry)) e → Shows (now (left .entry)) α → Ranks (length (now (points .entry))) (broken e α) r) ⌝ }
+{
+    let mut ranks = [0u8; 1024];
+    let mut t: usize = 0;
+    while t < points.len() {
+        ranks[t] = kleene::apart(points[t], left[t]);
+        t += 1;
+    }
+    ranks
+}
+
 // ---- since
 
 // Passes the begin that comes into the interval at minute t, if there is one.
-fn since_begin(points: &[u8], right: &[u8], lower: usize, t: usize, begins: Nearest) -> Nearest
-    requires { ⌜ (t < length (now points)) × (length (now right) ≡ length (now points)) ⌝ }
-    ensures { λ r. ⌜ ((e β : ℕ → Truth) → Shows (now (points .entry)) e → Shows (now (right .entry)) β → Lasts (begun e β) (t - lower) begins → Lasts (begun e β) (t + 1 - lower) r) ⌝ }
+fn since_begin(ranks: &[u8; 1024], lower: usize, t: usize, begins: Nearest) -> Nearest
+    requires { ⌜ (t < 1024) × (length (now ranks) ≡ 1024) ⌝ }
+    ensures { λ r. ⌜ ((m : ℕ) (f : ℕ → ℕ) → t < m → Ranks m f (now (ranks .entry)) → Lasts f (t - lower) begins → Lasts f (t + 1 - lower) r) ⌝ }
 {
     if t < lower {
         return begins;
     }
     let j = t - lower;
-    note(begins, j + 1, kleene::both(points[j], right[j]))
+    note(begins, j + 1, ranks[j])
 }
 
 // t - upper, and 0 where it would lie before minute 0.
@@ -106,13 +136,15 @@ pub fn since_row(points: &[u8], left: &[u8], right: &[u8], lower: usize, upper: 
     requires { ⌜ (length (now points) ≤ 1024) × (length (now left) ≡ length (now points)) × (length (now right) ≡ length (now points)) ⌝ }
     ensures { λ r. ⌜ ((w : World Truth) (α β : ℕ → Truth) → Shows (now (points .entry)) (point three w) → Shows (now (left .entry)) α → Shows (now (right .entry)) β → Row (length (now (points .entry))) (since three w α β lower upper) r) ⌝ }
 {
+    let begin_at = begin_ranks(points, right);
+    let break_at = break_ranks(points, left);
     let mut row = [0u8; 1024];
     let mut begins = Nearest { sure: 0, may: 0 };
     let mut breaks = Nearest { sure: 0, may: 0 };
     let mut t: usize = 0;
     while t < points.len() {
-        begins = since_begin(points, right, lower, t, begins);
-        breaks = note(breaks, t + 1, kleene::apart(points[t], left[t]));
+        begins = since_begin(&begin_at, lower, t, begins);
+        breaks = note(breaks, t + 1, break_at[t]);
         row[t] = since_value(minus(t, upper), begins, breaks);
         t += 1;
     }
@@ -121,13 +153,13 @@ pub fn since_row(points: &[u8], left: &[u8], right: &[u8], lower: usize, upper: 
 
 // ---- until
 
-// The rank of the begin at minute j, which may lie past the end.
-fn until_begin(points: &[u8], right: &[u8], j: usize) -> u8
-    requires { ⌜ length (now right) ≡ length (now points) ⌝ }
-    ensures { λ r. ⌜ ((e β : ℕ → Truth) → Shows (now (points .entry)) e → Shows (now (right .entry)) β → r ≡ begun e β j) ⌝ }
+// The rank of the begin at minute j, which is unknown from the end on.
+fn until_begin(ranks: &[u8; 1024], minutes: usize, j: usize) -> u8
+    requires { ⌜ (minutes ≤ 1024) × (length (now ranks) ≡ 1024) ⌝ }
+    ensures { λ r. ⌜ ((f : ℕ → ℕ) → Ranks minutes f (now (ranks .entry)) → (minutes ≤ j → f j ≡ 1) → r ≡ f j) ⌝ }
 {
-    if j < points.len() {
-        return kleene::both(points[j], right[j]);
+    if j < minutes {
+        return ranks[j];
     }
     1
 }
@@ -163,6 +195,8 @@ pub fn until_row(points: &[u8], left: &[u8], right: &[u8], lower: usize, upper: 
     requires { ⌜ (length (now points) ≤ 1024) × (length (now left) ≡ length (now points)) × (length (now right) ≡ length (now points)) × (lower ≤ 1023) × (upper ≤ 1023) ⌝ }
     ensures { λ r. ⌜ ((w : World Truth) (α β : ℕ → Truth) → Shows (now (points .entry)) (point three w) → Shows (now (left .entry)) α → Shows (now (right .entry)) β → Row (length (now (points .entry))) (until three w α β lower upper) r) ⌝ }
 {
+    let begin_at = begin_ranks(points, right);
+    let break_at = break_ranks(points, left);
     let mut row = [0u8; 1024];
     let mut t = points.len();
     let mut begins = Nearest {
@@ -173,8 +207,8 @@ pub fn until_row(points: &[u8], left: &[u8], right: &[u8], lower: usize, upper: 
     while 0 < t {
         t -= 1;
         let j = t + lower;
-        begins = note(begins, j, until_begin(points, right, j));
-        breaks = note(breaks, t, kleene::apart(points[t], left[t]));
+        begins = note(begins, j, until_begin(&begin_at, points.len(), j));
+        breaks = note(breaks, t, break_at[t]);
         row[t] = until_value(t + upper, begins, breaks);
     }
     row

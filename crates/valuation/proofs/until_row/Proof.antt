@@ -1,6 +1,6 @@
 -- `valuation::until_row` meets its contract. The invariant of its loop: the cells from t on are the until's, the breaks from t on and the begins
 -- from t + lower on are noted. The measure is t. Assumes nothing.
-use mathlib.Core.Path.{_≡_, refl, subst, _∙_}
+use mathlib.Core.Path.{_≡_, refl, subst}
 use Prim.Native.Nat.{ℕ, _+_, _-_, _≤_}
 use native.Mathlib.Omega.{arith}
 use denote.Ref.{now}
@@ -12,35 +12,40 @@ use Rattle.mtl.specs.Algebra.{three}
 use Rattle.mtl.specs.Reading.{World, point, until}
 use Rattle.valuation.specs.Rows.{Shows, Row}
 use Rattle.valuation.specs.Indexes.{begun, broken, Firsts}
-use Rattle.valuation.proofs.Shown.{begun-past, broken-at, broken-past, filled}
+use Rattle.valuation.proofs.Shown.{begun-past, broken-past, filled}
 use Rattle.valuation.proofs.Steps.{no-first, firsts-step}
 use Rattle.valuation.proofs.until_row.Statement.{statement}
 use Rattle.valuation.proofs.until_row.Tie as tie
 use Rattle.valuation.proofs.until_row.Reads as reads
 use Rattle.valuation.proofs.until_row.Lts as lts
-use Rattle.kleene.proofs.apart.Reads as apart-reads
+use Rattle.valuation.proofs.begin_ranks.Reads as begin-ranks-reads
+use Rattle.valuation.proofs.break_ranks.Reads as break-ranks-reads
 use Rattle.valuation.proofs.note.Reads as note-reads
 use Rattle.valuation.proofs.until_begin.Reads as until-begin-reads
 use Rattle.valuation.proofs.until_value.Reads as until-value-reads
 
 abbrev Inv-loop : tie.InvT-loop
-Inv-loop points left right lower upper row₀ t₀ begins₀ breaks₀ row t begins breaks =
+Inv-loop points left right lower upper begin-at break-at row₀ t₀ begins₀ breaks₀ row t begins breaks =
     (t ≤ length points)
     × ((w : World Truth) (α β : ℕ → Truth) → Shows points (point three w) → Shows left α → Shows right β
     → Firsts (begun (point three w) β) (t + lower) begins × Firsts (broken (point three w) α) t breaks
     × Over (λ s. codeOf (until three w α β lower upper s)) t (length points) (replicate 1024 0) row)
 
 abbrev μ-loop : tie.MeasureT-loop
-μ-loop points left right lower upper row₀ t₀ begins₀ breaks₀ row t begins breaks = t
+μ-loop points left right lower upper begin-at break-at row₀ t₀ begins₀ breaks₀ row t begins breaks = t
 
--- src/lib.rt:159:14
-add-t11 : tie.Need-add-t11 Inv-loop μ-loop
-add-t11 c = omega arith
+begin-ranks-requires : tie.Need-begin-ranks-requires Inv-loop μ-loop
+begin-ranks-requires c κs = (omega arith, omega arith)
 
--- src/lib.rt:162:5
+break-ranks-requires : tie.Need-break-ranks-requires Inv-loop μ-loop
+break-ranks-requires c κs = (omega arith, omega arith)
+
+add-t14 : tie.Need-add-t14 Inv-loop μ-loop
+add-t14 c = omega arith
+
 loop-holds : tie.Need-loop-holds Inv-loop μ-loop
 loop-holds c =
-    let x = c .before .before .before .args in
+    let x = c .before .before .before .before .before .args in
     let points = now (x .points) in
     let m = length points in (
       omega arith,
@@ -51,79 +56,63 @@ loop-holds c =
       ),
     )
 
--- src/lib.rt:163:9
 sub-t : tie.Need-sub-t Inv-loop μ-loop
 sub-t c = omega arith
 
--- src/lib.rt:164:17
 add-j : tie.Need-add-j Inv-loop μ-loop
 add-j c = omega arith
 
--- src/lib.rt:165:34
 until-begin-requires : tie.Need-until-begin-requires Inv-loop μ-loop
-until-begin-requires c κs = omega arith
+until-begin-requires c κs = (omega arith, c .before .before .before .before .begin-ranks .ensures .0)
 
--- src/lib.rt:165:9
 note-requires : tie.Need-note-requires Inv-loop μ-loop
 note-requires c κs = omega arith
 
--- src/lib.rt:166:48
-shared-slice-read-apart : tie.Need-shared-slice-read-apart Inv-loop μ-loop
-shared-slice-read-apart c = omega arith
+array-read-note : tie.Need-array-read-note Inv-loop μ-loop
+array-read-note c = omega arith
 
--- src/lib.rt:166:59
-shared-slice-read-apart-2 : tie.Need-shared-slice-read-apart-2 Inv-loop μ-loop
-shared-slice-read-apart-2 c = omega arith
-
--- src/lib.rt:166:34
-apart-requires : tie.Need-apart-requires Inv-loop μ-loop
-apart-requires c κs = omega arith
-
--- src/lib.rt:166:9
 note-requires-2 : tie.Need-note-requires-2 Inv-loop μ-loop
 note-requires-2 c κs = omega arith
 
--- src/lib.rt:167:30
 add-until-value : tie.Need-add-until-value Inv-loop μ-loop
 add-until-value c = omega arith
 
--- src/lib.rt:167:18
 until-value-requires : tie.Need-until-value-requires Inv-loop μ-loop
 until-value-requires c κs = omega arith
 
--- src/lib.rt:167:9
 array-write-row : tie.Need-array-write-row Inv-loop μ-loop
 array-write-row c = omega arith
 
--- src/lib.rt:162:5
 loop-less : tie.Need-loop-less Inv-loop μ-loop
 loop-less c = omega arith
 
--- src/lib.rt:162:5
 loop-again : tie.Need-loop-again Inv-loop μ-loop
 loop-again c =
-    let l = c .before .before .before .before .before .before .before .before in
-    let x = l .before .before .before .before .args in
+    let l = c .before .before .before .before .before .before in
+    let s = l .before .before .before .before .before .before in
+    let x = s .args in
+    let points = now (x .points) in
     let t = l .loop .t in
     let more : t ≡ t - 1 + 1 = omega arith in
     let there : t + x .lower ≡ t - 1 + x .lower + 1 = omega arith in (
       omega arith,
       λ w α β P Q R.
           let old = l .loop .inv .1 w α β P Q R in
-          let b = c .before .before .before .before .before in
-          let begins = firsts-step (t - 1 + x .lower) (b .before .until-begin .result) (l .loop .begins) (b .note .result) (begun (point three w) β) (b .before .until-begin .ensures (point three w) β P R) (b .note .ensures) (subst (λ (n : ℕ). Firsts (begun (point three w) β) n (l .loop .begins)) there (old .0)) in
-          let ends = firsts-step (t - 1) (c .before .before .apart .result) (l .loop .breaks) (c .before .note2 .result) (broken (point three w) α) (c .before .before .apart .ensures ∙ broken-at (now (x .points)) (now (x .left)) (point three w) α P Q (t - 1)) (c .before .note2 .ensures) (subst (λ (n : ℕ). Firsts (broken (point three w) α) n (l .loop .breaks)) more (old .1)) in (
+          let b = c .before .before in
+          let ranks = l .before .before .begin-ranks .ensures .1 (point three w) β P R in
+          let begin = b .before .until-begin .ensures (begun (point three w) β) ranks (λ past. begun-past points (now (x .right)) (point three w) β P R (t - 1 + x .lower) past (omega (arith, past, s .pre .2))) in
+          let begins = firsts-step (t - 1 + x .lower) (b .before .until-begin .result) (l .loop .begins) (b .note .result) (begun (point three w) β) begin (b .note .ensures) (subst (λ (n : ℕ). Firsts (begun (point three w) β) n (l .loop .begins)) there (old .0)) in
+          let ends = firsts-step (t - 1) _ (l .loop .breaks) (c .before .note2 .result) (broken (point three w) α) (l .before .break-ranks .ensures .1 (point three w) α P Q (t - 1) (omega arith)) (c .before .note2 .ensures) (subst (λ (n : ℕ). Firsts (broken (point three w) α) n (l .loop .breaks)) more (old .1)) in (
             begins,
             ends,
-            one-before (λ s. codeOf (until three w α β (x .lower) (x .upper) s)) t (length (now (x .points))) (replicate 1024 0) (l .loop .row) (c .until-value .result) (old .2) (t - 1) (omega arith) (omega (arith, old .2 .long, length-replicate {A = ℕ} 1024 0)) (omega arith) (c .until-value .ensures w α β (x .lower) (x .upper) (t - 1) refl (omega arith) begins ends),
+            one-before (λ s. codeOf (until three w α β (x .lower) (x .upper) s)) t (length points) (replicate 1024 0) (l .loop .row) (c .until-value .result) (old .2) (t - 1) (omega arith) (omega (arith, old .2 .long, length-replicate {A = ℕ} 1024 0)) (omega arith) (c .until-value .ensures w α β (x .lower) (x .upper) (t - 1) refl (omega arith) begins ends),
           ),
     )
 
--- src/lib.rt:151:1
 returns : tie.Need-returns Inv-loop μ-loop
 returns c w α β P Q R =
     let l = c .before in
-    let x = l .before .before .before .before .args in
+    let x = l .before .before .before .before .before .before .args in
     let done : l .loop .t ≡ 0 = omega arith in
     filled (length (now (x .points))) (until three w α β (x .lower) (x .upper)) (l .loop .row)
     (subst (λ (n : ℕ). Over (λ s. codeOf (until three w α β (x .lower) (x .upper) s)) n (length (now (x .points))) (replicate 1024 0) (l .loop .row)) done (l .loop .inv .1 w α β P Q R .2))
@@ -134,15 +123,15 @@ until-row-spec =
     (tie.spec
     Inv-loop
     μ-loop
-    add-t11
+    begin-ranks-requires
+    break-ranks-requires
+    add-t14
     loop-holds
     sub-t
     add-j
     until-begin-requires
     note-requires
-    shared-slice-read-apart
-    shared-slice-read-apart-2
-    apart-requires
+    array-read-note
     note-requires-2
     add-until-value
     until-value-requires
