@@ -2,10 +2,10 @@
 
 use conformance::inputs::{self, Size};
 use conformance::rounds::{self, Seen};
-use conformance::{lookup, open, receive};
+use conformance::{archive, lookup, open, receive};
 use oracle::generate::{self, Random};
 use oracle::policy::Policy;
-use oracle::Buffers;
+use oracle::{Answer, Buffers};
 
 /// What each job does: how many lists on policies of which size, and the most messages of a trace in one.
 const KINDS: [(Size, usize, usize); 7] = [
@@ -15,12 +15,12 @@ const KINDS: [(Size, usize, usize); 7] = [
     (Size::Medium, 150, 24),
     (Size::Wide, 10, 24),
     (Size::Long, 8, 16),
-    (Size::Largest, 1, 4),
+    (Size::Largest, 1, 10),
 ];
 
 #[test]
 fn archive_and_oracle_agree_after_every_take() {
-    let jobs = 8 * KINDS.len();
+    let jobs = 12 * KINDS.len();
     let seen = rounds::run(1_000_000, jobs, |number, random, seen| {
         let (size, lists, most) = KINDS[number % KINDS.len()];
         for _ in 0..lists {
@@ -31,7 +31,8 @@ fn archive_and_oracle_agree_after_every_take() {
         }
     });
     seen.at_least(20_000, "lists");
-    seen.at_least(5, "largest lists");
+    seen.at_least(12, "largest lists");
+    seen.at_least(500, "empty offers");
     for (what, times) in [("accepted", 50_000), ("refused 7", 5_000), ("refused 8", 5_000), ("refused 9", 5_000)] {
         seen.at_least(times, &format!("receive {what}"));
     }
@@ -43,16 +44,46 @@ fn archive_and_oracle_agree_after_every_take() {
 /// Everything known: all messages of the largest sizes' trace, in any order.
 #[test]
 fn the_largest_policy_with_everything_known() {
-    let seen = rounds::run(1_500_000, 2, |_, random, seen| {
+    let seen = rounds::run(1_500_000, 4, |_, random, seen| {
         let policy = inputs::policy(random, Size::Largest);
         let trace = inputs::few_observations(random, &policy, 6);
         let offers = inputs::sent(random, &policy, &trace, 22);
         list(random, &policy, &offers, seen);
     });
-    seen.at_least(2, "largest lists");
-    seen.at_least(40, "receive accepted");
-    seen.at_least(10, "kept");
-    seen.at_least(10, "broken");
+    seen.at_least(4, "largest lists");
+    seen.at_least(80, "receive accepted");
+    seen.at_least(20, "kept");
+    seen.at_least(20, "broken");
+}
+
+/// More messages than the oracle can read one by one: the archive takes them all, the oracle learns them, and both read
+/// the last.
+#[test]
+fn the_largest_policy_with_many_observations() {
+    let seen = rounds::run(1_700_000, 4, |_, random, seen| {
+        let policy = inputs::policy(random, Size::Largest);
+        let trace = generate::trace(random, &policy, 3);
+        let mut messages = generate::every_message(&policy, &trace);
+        random.shuffle(&mut messages);
+        let last = generate::encode_message(&messages.pop().unwrap());
+        let bytes = generate::encode_policy(&policy);
+        let mut buffers = inputs::filled_buffers(random, &policy);
+        assert_eq!(archive::open(&bytes, &mut buffers), Answer::Done);
+        let mut learnt = buffers.clone();
+        for message in &messages {
+            let answer = archive::receive(&bytes, &generate::encode_message(message), &mut buffers);
+            assert!(matches!(answer, Answer::Received(_)), "{answer:?} to {message:?} under {bytes:?}");
+            learnt.learn(&policy, message);
+        }
+        assert!(buffers.numbers == learnt.numbers && buffers.facts == learnt.facts, "not learnt alike under {bytes:?}");
+        seen.answer("receive", receive(&bytes, &last, &mut buffers));
+        seen.add("taken before", messages.len());
+        seen.verdicts(&buffers.verdicts);
+    });
+    seen.at_least(4, "receive accepted");
+    for what in ["taken before", "kept", "broken"] {
+        seen.at_least(2_000, what);
+    }
 }
 
 /// Bytes to offer: messages of one trace, damaged and stray ones, some of another trace, and noise.
@@ -81,6 +112,7 @@ fn list(random: &mut Random, policy: &Policy, offers: &[Vec<u8>], seen: &mut See
     looks(random, policy, &bytes, &buffers, seen);
     for offer in offers {
         seen.answer("receive", receive(&bytes, offer, &mut buffers));
+        seen.add("empty offers", usize::from(offer.is_empty()));
         if random.once_in(3) {
             looks(random, policy, &bytes, &buffers, seen);
         }
