@@ -19,6 +19,10 @@ pub enum Size {
     Largest,
 }
 
+impl Size {
+    pub const ALL: [Size; 6] = [Size::Tiny, Size::Small, Size::Medium, Size::Wide, Size::Long, Size::Largest];
+}
+
 pub fn policy(random: &mut Random, size: Size) -> Policy {
     let mut policy = match size {
         Size::Tiny => generate::policy(random, &TINY),

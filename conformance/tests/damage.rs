@@ -137,9 +137,8 @@ const RESIZINGS: [Resizing; 4] = [
 /// Each buffer empty, of one cell, short or long by one, of twice its size, and huge.
 #[test]
 fn buffers_of_every_wrong_size() {
-    let sizes = [Size::Tiny, Size::Small, Size::Medium, Size::Wide, Size::Long, Size::Largest];
-    let seen = rounds::run(3_500_000, 10 * sizes.len(), |number, random, seen| {
-        let policy = inputs::policy(random, sizes[number % sizes.len()]);
+    let seen = rounds::run(3_500_000, 10 * Size::ALL.len(), |number, random, seen| {
+        let policy = inputs::policy(random, Size::ALL[number % Size::ALL.len()]);
         let bytes = generate::encode_policy(&policy);
         let exact = inputs::filled_buffers(random, &policy);
         for (length, resize) in RESIZINGS {
@@ -210,4 +209,54 @@ fn refused_policy(random: &mut Random, bytes: &[u8], buffers: &Buffers, seen: &m
             seen.answer("receive", receive(bytes, &[0x10], &mut buffers.clone()));
         }
     }
+}
+
+/// How many cells stand on each side of the lent ones.
+const MARGIN: usize = 64;
+
+/// Cells that are lent, between cells that are not.
+struct Lent<T> {
+    cells: Vec<T>,
+    mark: T,
+}
+
+impl<T: Copy + PartialEq> Lent<T> {
+    fn new(part: &[T], mark: T) -> Lent<T> {
+        let margin = [mark; MARGIN];
+        Lent { cells: [&margin[..], part, &margin[..]].concat(), mark }
+    }
+
+    fn part(&mut self) -> &mut [T] {
+        let end = self.cells.len() - MARGIN;
+        &mut self.cells[MARGIN..end]
+    }
+
+    fn kept_beside(&self) -> bool {
+        let (before, after) = (&self.cells[..MARGIN], &self.cells[self.cells.len() - MARGIN..]);
+        before.iter().chain(after).all(|cell| *cell == self.mark)
+    }
+}
+
+/// The buffers are parts of longer ones, as C lends them.
+#[test]
+fn nothing_beside_the_lent_cells_is_written() {
+    let seen = rounds::run(3_900_000, 20 * Size::ALL.len(), |number, random, seen| {
+        let policy = inputs::policy(random, Size::ALL[number % Size::ALL.len()]);
+        let bytes = generate::encode_policy(&policy);
+        let trace = inputs::trace(random, &policy, 8);
+        let Buffers { numbers, facts, valuation, verdicts } = inputs::filled_buffers(random, &policy);
+        let (mut numbers, mut facts) = (Lent::new(&numbers, 0x5A5A), Lent::new(&facts, 0x5A5A_5A5A));
+        let (mut valuation, mut verdicts) = (Lent::new(&valuation, 0x5A), Lent::new(&verdicts, 0x5A));
+        let opened = zankezurt::open(&bytes, numbers.part(), facts.part(), valuation.part(), verdicts.part());
+        assert_eq!(opened, Ok(()));
+        for offer in generate::offers(random, &policy, &trace, 20) {
+            let parts = (numbers.part(), facts.part(), valuation.part(), verdicts.part());
+            let taken = zankezurt::receive(&bytes, &offer, parts.0, parts.1, parts.2, parts.3);
+            seen.one(if taken.is_ok() { "accepted" } else { "refused" });
+            let sheets = valuation.kept_beside() && verdicts.kept_beside();
+            assert!(numbers.kept_beside() && facts.kept_beside() && sheets, "policy {bytes:?}\nmessage {offer:?}");
+        }
+    });
+    seen.at_least(1_000, "accepted");
+    seen.at_least(100, "refused");
 }
