@@ -41,7 +41,7 @@ fn archive_and_oracle_agree_after_every_take() {
     }
 }
 
-/// Everything known: all messages of the largest sizes' trace, in any order.
+/// All messages of a trace with few observations, so that every minute is known at the end.
 #[test]
 fn the_largest_policy_with_everything_known() {
     let seen = rounds::run(1_500_000, 4, |_, random, seen| {

@@ -38,7 +38,7 @@ fn the_order_of_messages_and_repeats_do_not_matter() {
     seen.at_least(1_000, "broken");
 }
 
-/// One of two lists.
+/// One take of a list.
 struct Offer {
     bytes: Vec<u8>,
     /// Why it has to be refused, if it is ill-formed.
