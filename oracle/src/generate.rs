@@ -496,7 +496,7 @@ pub fn program_input(random: &mut Random, limits: &Limits, count: usize) -> Vec<
         _ => encode_policy(&policy),
     };
     let length = match random.below(12) {
-        0 => random.pick(&[0, 1, bytes.len() - 1, bytes.len() + 1, MOST_BYTES, MOST_BYTES + 1, 65535]),
+        0 => random.pick(&[0, 1, bytes.len().saturating_sub(1), bytes.len() + 1, MOST_BYTES, MOST_BYTES + 1, 65535]),
         _ => bytes.len(),
     };
     let mut input = (length as u16).to_le_bytes().to_vec();

@@ -163,3 +163,10 @@ fn program_inputs_of_every_kind() {
     }
     assert!(refused > 20 && verdicts > 200, "{refused} {verdicts}");
 }
+
+/// This seed cuts the policy to no bytes and then picks a wrong length for it.
+#[test]
+fn a_program_input_whose_policy_is_cut_to_nothing() {
+    let input = generate::program_input(&mut Random::new(7508), &TINY, 0);
+    assert!(program(&input).starts_with(b"card refused 1 at "), "{input:?}");
+}

@@ -1,0 +1,33 @@
+//! The archive's calls, through the bindings, over the oracle's types.
+
+use oracle::reading::Verdict;
+use oracle::{Answer, Buffers, Look, Refusal};
+
+pub fn open(policy: &[u8], buffers: &mut Buffers) -> Answer {
+    let Buffers { numbers, facts, valuation, verdicts } = buffers;
+    match zankezurt::open(policy, numbers, facts, valuation, verdicts) {
+        Ok(()) => Answer::Done,
+        Err(refusal) => Answer::Refused(refused(refusal)),
+    }
+}
+
+pub fn receive(policy: &[u8], message: &[u8], buffers: &mut Buffers) -> Answer {
+    let Buffers { numbers, facts, valuation, verdicts } = buffers;
+    match zankezurt::receive(policy, message, numbers, facts, valuation, verdicts) {
+        Ok(standing) => Answer::Received(standing),
+        Err(refusal) => Answer::Refused(refused(refusal)),
+    }
+}
+
+pub fn lookup(policy: &[u8], verdicts: &[u8], rule: usize, minute: usize) -> Look {
+    match zankezurt::lookup(policy, verdicts, rule, minute) {
+        Ok(zankezurt::Verdict::Unknown) => Look::Verdict(Verdict::Unknown),
+        Ok(zankezurt::Verdict::Satisfied) => Look::Verdict(Verdict::Satisfied),
+        Ok(zankezurt::Verdict::Violated) => Look::Verdict(Verdict::Violated),
+        Err(refusal) => Look::Refused(refused(refusal)),
+    }
+}
+
+fn refused(refusal: zankezurt::Refusal) -> Refusal {
+    Refusal { number: refusal.reason.number(), place: refusal.place }
+}

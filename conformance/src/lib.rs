@@ -1,0 +1,71 @@
+//! Calls the archive and the oracle with the same bytes. They must agree in all that they give: answer, number, place and
+//! every cell of the four buffers.
+//!
+//! A difference panics with the whole input, so that it can be kept as a test. `ZANKEZURT_ROUNDS`, a number, makes every
+//! random test that many times longer, on inputs that a shorter run does not see.
+#![forbid(unsafe_code)]
+
+pub mod archive;
+pub mod inputs;
+pub mod rounds;
+
+use oracle::{Answer, Buffers, Look};
+
+/// Opens on both sides; a refusal must have changed nothing.
+pub fn open(policy: &[u8], buffers: &mut Buffers) -> Answer {
+    let call = format!("open\npolicy {policy:?}");
+    both(&call, buffers, |buffers| archive::open(policy, buffers), |buffers| oracle::open(policy, buffers))
+}
+
+/// Receives on both sides; a refusal must have changed nothing.
+pub fn receive(policy: &[u8], message: &[u8], buffers: &mut Buffers) -> Answer {
+    let call = format!("receive\npolicy {policy:?}\nmessage {message:?}");
+    let archive = |buffers: &mut Buffers| archive::receive(policy, message, buffers);
+    both(&call, buffers, archive, |buffers| oracle::receive(policy, message, buffers))
+}
+
+/// Looks on both sides.
+pub fn lookup(policy: &[u8], verdicts: &[u8], rule: usize, minute: usize) -> Look {
+    let look = archive::lookup(policy, verdicts, rule, minute);
+    let expected = oracle::lookup(policy, verdicts, rule, minute);
+    assert!(
+        look == expected,
+        "archive {look:?}, oracle {expected:?}\nlookup of rule {rule}, minute {minute}\npolicy {policy:?}\n{verdicts:?}"
+    );
+    look
+}
+
+/// Calls the archive on the buffers and the oracle on a copy of them.
+fn both(
+    call: &str,
+    buffers: &mut Buffers,
+    archive: impl Fn(&mut Buffers) -> Answer,
+    oracle: impl Fn(&mut Buffers) -> Answer,
+) -> Answer {
+    let before = buffers.clone();
+    let mut expected = before.clone();
+    let answer = archive(buffers);
+    let expected_answer = oracle(&mut expected);
+    let same = answer == expected_answer && *buffers == expected;
+    let difference = || difference(buffers, &expected);
+    assert!(same, "archive {answer:?}, oracle {expected_answer:?}, {}\n{call}\nbefore {before:?}", difference());
+    if let Answer::Refused(_) = answer {
+        assert!(*buffers == before, "refused and changed\n{call}\nbefore {before:?}");
+    }
+    answer
+}
+
+/// The first cell of each buffer that differs.
+fn difference(archive: &Buffers, oracle: &Buffers) -> String {
+    fn first<T: PartialEq>(name: &str, one: &[T], other: &[T]) -> String {
+        let cell = (0..one.len()).find(|cell| one[*cell] != other[*cell]);
+        cell.map_or_else(String::new, |cell| format!("{name} differ at {cell} "))
+    }
+    [
+        first("numbers", &archive.numbers, &oracle.numbers),
+        first("facts", &archive.facts, &oracle.facts),
+        first("valuation", &archive.valuation, &oracle.valuation),
+        first("verdicts", &archive.verdicts, &oracle.verdicts),
+    ]
+    .concat()
+}
