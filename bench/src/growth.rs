@@ -10,35 +10,36 @@ pub struct Point {
     pub time: f64,
 }
 
-/// The least time of the monitor's take for each shape; sizes are the numbers shown.
+/// The least time of the monitor's take for each shape, measured in turns; sizes are the numbers shown.
 pub fn points(shapes: &[(usize, Shape)], samples: usize) -> Vec<Point> {
-    let measure = |&(size, ref shape): &(usize, Shape)| {
-        let mut workload = Workload::new(shape);
-        let times = in_turns(&[Contender::Monitor], &mut workload, samples).remove(0);
-        Point { size, time: Spread::of(times).least() }
-    };
-    shapes.iter().map(measure).collect()
+    let mut workloads: Vec<Workload> = shapes.iter().map(|(_, shape)| Workload::new(shape)).collect();
+    let mut times = vec![f64::INFINITY; shapes.len()];
+    for _ in 0..samples {
+        for (workload, least) in workloads.iter_mut().zip(&mut times) {
+            *least = least.min(Spread::of(in_turns(&[Contender::Monitor], workload, 1).remove(0)).least());
+        }
+    }
+    shapes.iter().zip(times).map(|((size, _), time)| Point { size: *size, time }).collect()
 }
 
 /// The slope of the best line through the points on logarithmic scales.
 pub fn slope(points: &[Point]) -> f64 {
     let logs: Vec<(f64, f64)> = points.iter().map(|point| ((point.size as f64).ln(), point.time.ln())).collect();
-    line(&logs).1
+    line(&logs)
 }
 
-/// The best line through the points as they are: where it starts, and how steep it is.
-pub fn straight(points: &[Point]) -> (f64, f64) {
-    let plain: Vec<(f64, f64)> = points.iter().map(|point| (point.size as f64, point.time)).collect();
-    line(&plain)
+/// What each doubling of the size adds to the time, beside the size that was doubled: the part that grows, without what a take costs at
+/// any size.
+pub fn added(points: &[Point]) -> Vec<Point> {
+    points.windows(2).map(|pair| Point { size: pair[0].size, time: pair[1].time - pair[0].time }).collect()
 }
 
-/// The least-squares line: its value at 0 and its slope.
-fn line(points: &[(f64, f64)]) -> (f64, f64) {
+/// The slope of the least-squares line.
+fn line(points: &[(f64, f64)]) -> f64 {
     let count = points.len() as f64;
     let mean = |value: fn(&(f64, f64)) -> f64| points.iter().map(value).sum::<f64>() / count;
     let (x, y) = (mean(|p| p.0), mean(|p| p.1));
     let across: f64 = points.iter().map(|p| (p.0 - x) * (p.0 - x)).sum();
     let along: f64 = points.iter().map(|p| (p.0 - x) * (p.1 - y)).sum();
-    let slope = along / across;
-    (y - slope * x, slope)
+    along / across
 }

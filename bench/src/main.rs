@@ -1,7 +1,7 @@
 //! Prints what a take costs: `bench`, or `bench take NAME COUNT` for the takes alone.
 
 use bench::contender::{Contender, ALL};
-use bench::growth::{points, slope, straight, Point};
+use bench::growth::{added, points, slope};
 use bench::instructions;
 use bench::timing::{in_turns, ratios, Spread};
 use bench::workload::{Shape, Workload, LARGEST};
@@ -83,12 +83,9 @@ fn grow(name: &str, sizes: &[usize], shape: impl Fn(usize) -> Shape) {
     for point in &measured {
         println!("{:>12} {:>12.2} µs", point.size, point.time * MICRO);
     }
-    let (start, _) = straight(&measured);
-    let rest: Vec<Point> = measured.iter().map(|p| Point { size: p.size, time: p.time - start }).collect();
     println!(
-        "slope on logarithmic scales {:.3}; without what does not grow with it, {:.2} µs: {:.3}\n",
+        "slope on logarithmic scales: of the time {:.3}, of what each doubling adds {:.3}\n",
         slope(&measured),
-        start * MICRO,
-        slope(&rest)
+        slope(&added(&measured))
     );
 }

@@ -23,7 +23,7 @@ pub struct Shape {
 
 pub const LARGEST: Shape = Shape { propositions: 32, components: 16, minutes: 1024, subformulas: 64 };
 
-/// The dearest policy of a shape: a proposition, and from it on since and until by turns over random earlier lines and intervals. The
+/// The dearest policy of a shape: a proposition, and then since and until by turns over random earlier lines and intervals. The
 /// last lines are rules.
 fn dearest_policy(random: &mut Random, shape: &Shape) -> Policy {
     let first_rule = shape.subformulas - shape.subformulas.min(MOST_RULES);
@@ -34,7 +34,7 @@ fn dearest_policy(random: &mut Random, shape: &Shape) -> Policy {
 }
 
 fn formula(random: &mut Random, line: usize, shape: &Shape) -> Formula {
-    if line < 2 {
+    if line == 0 {
         return Formula::Proposition(random.below(shape.propositions));
     }
     let lower = random.below(HIGHEST_BOUND / 2);

@@ -58,14 +58,24 @@ fn code(sure: bool, may: bool) -> u8 {
     }
 }
 
+/// The ranks of all minutes, by `rank` of e and of the operand.
+fn ranks(points: &[u8], operand: &[u8], rank: impl Fn(u8, u8) -> u8) -> [u8; 1024] {
+    let mut ranks = [0; 1024];
+    for ((cell, &x), &y) in ranks.iter_mut().zip(points).zip(operand) {
+        *cell = rank(x, y);
+    }
+    ranks
+}
+
 fn since_row(points: &[u8], left: &[u8], right: &[u8], lower: usize, upper: usize, row: &mut [u8]) {
+    let (begin_at, break_at) = (ranks(points, right, both), ranks(points, left, apart));
     let mut begins = Nearest { sure: 0, may: 0 };
     let mut breaks = Nearest { sure: 0, may: 0 };
     for t in 0..row.len() {
         if let Some(j) = t.checked_sub(lower) {
-            begins.note(j + 1, both(points[j], right[j]));
+            begins.note(j + 1, begin_at[j]);
         }
-        breaks.note(t + 1, apart(points[t], left[t]));
+        breaks.note(t + 1, break_at[t]);
         let start = t.saturating_sub(upper);
         let reaches = |begin, stop| begin > start && begin >= stop;
         row[t] = code(reaches(begins.sure, breaks.may), reaches(begins.may, breaks.sure));
@@ -73,14 +83,15 @@ fn since_row(points: &[u8], left: &[u8], right: &[u8], lower: usize, upper: usiz
 }
 
 fn until_row(points: &[u8], left: &[u8], right: &[u8], lower: usize, upper: usize, row: &mut [u8]) {
+    let (begin_at, break_at) = (ranks(points, right, both), ranks(points, left, apart));
     let minutes = row.len();
     let mut begins = Nearest { sure: usize::MAX, may: minutes + lower };
     let mut breaks = Nearest { sure: usize::MAX, may: minutes };
     for t in (0..minutes).rev() {
         let j = t + lower;
-        let rank = if j < minutes { both(points[j], right[j]) } else { 1 };
+        let rank = if j < minutes { begin_at[j] } else { 1 };
         begins.note(j, rank);
-        breaks.note(t, apart(points[t], left[t]));
+        breaks.note(t, break_at[t]);
         let reaches = |begin, stop| begin <= t + upper && begin <= stop;
         row[t] = code(reaches(begins.sure, breaks.may), reaches(begins.may, breaks.sure));
     }
