@@ -3,7 +3,7 @@ use Prim.Native.Nat.{ℕ, _≤_, _<_}
 use mathlib.Core.Path.{_≡_, sym, ap, ap₂, _∙_}
 use mathlib.Core.List.{List}
 use native.Mathlib.Omega.{arith}
-use lib.ListN.{getD, length, replicate, List·getD-eq-default}
+use lib.ListN.{getD, length, List·getD-eq-default}
 use Rattle.kleene.specs.Truth.{Truth, unknown, codeOf, valueOf, not3, and3}
 use Rattle.kleene.specs.Rank.{rankOf}
 use Rattle.rows.specs.Over.{Over}
@@ -30,9 +30,9 @@ module _ (p l : List ℕ) (e f : ℕ → Truth) (P : Shows p e) (L : Shows l f) 
   unfolding broken rankOf
   broken-past s h k = ap₂ (λ (x y : Truth). rankOf (and3 x (not3 y))) (past p e P s h) (past l f L s k)
 
--- an array that was filled over 0
-pub filled : (m : ℕ) (f : ℕ → Truth) (r : List ℕ) → Over (λ t. codeOf (f t)) 0 m (replicate 1024 0) r → Row m f r
-filled m f r o t h = o .inside t (omega arith) h
+-- an array that was written over
+pub filled : (m : ℕ) (f : ℕ → Truth) (old r : List ℕ) → Over (λ t. codeOf (f t)) 0 m old r → Row m f r
+filled m f old r o t h = o .inside t (omega arith) h
 
 -- a row of values is a row of equal values
 pub read-as : (m : ℕ) (f g : ℕ → Truth) (r : List ℕ) → ((t : ℕ) → f t ≡ g t) → Row m f r → Row m g r

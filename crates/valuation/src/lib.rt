@@ -60,32 +60,28 @@ fn code(sure: bool, may: bool) -> u8
 
 // ---- where a since or until may begin and break off, for all minutes at once before they are passed one by one
 
-// The rank of `e and right` at each minute: where it begins.
-fn begin_ranks(points: &[u8], right: &[u8]) -> [u8; 1024]
-    requires { ⌜ (length (now points) ≤ 1024) × (length (now right) ≡ length (now points)) ⌝ }
-    ensures { λ r. ⌜ (length r ≡ 1024) × ((e β : ℕ → Truth) → Shows (now (points .entry)) e → Shows (now (right .entry)) β → Ranks (length (now (points .entry))) (begun e β) r) ⌝ }
+// Writes the rank of `e and right` at each minute: where it begins.
+fn rank_begins(points: &[u8], right: &[u8], ranks: &mut [u8; 1024])
+    requires { ⌜ (length (now points) ≤ 1024) × (length (now right) ≡ length (now points)) × (length (now ranks) ≡ 1024) ⌝ }
+    ensures { λ _. ⌜ (length (now (ranks .exit)) ≡ 1024) × ((e β : ℕ → Truth) → Shows (now (points .entry)) e → Shows (now (right .entry)) β → Ranks (length (now (points .entry))) (begun e β) (now (ranks .exit))) ⌝ }
 {
-    let mut ranks = [0u8; 1024];
     let mut t: usize = 0;
     while t < points.len() {
         ranks[t] = kleene::both(points[t], right[t]);
         t += 1;
     }
-    ranks
 }
 
-// The rank of `e and not left` at each minute: where it breaks off.
-fn break_ranks(points: &[u8], left: &[u8]) -> [u8; 1024]
-    requires { ⌜ (length (now points) ≤ 1024) × (length (now left) ≡ length (now points)) ⌝ }
-    ensures { λ r. ⌜ (length r ≡ 1024) × ((e α : ℕ → Truth) → Shows (now (points .entry)) e → Shows (now (left .entry)) α → Ranks (length (now (points .entry))) (broken e α) r) ⌝ }
+// Writes the rank of `e and not left` at each minute: where it breaks off.
+fn rank_breaks(points: &[u8], left: &[u8], ranks: &mut [u8; 1024])
+    requires { ⌜ (length (now points) ≤ 1024) × (length (now left) ≡ length (now points)) × (length (now ranks) ≡ 1024) ⌝ }
+    ensures { λ _. ⌜ (length (now (ranks .exit)) ≡ 1024) × ((e α : ℕ → Truth) → Shows (now (points .entry)) e → Shows (now (left .entry)) α → Ranks (length (now (points .entry))) (broken e α) (now (ranks .exit))) ⌝ }
 {
-    let mut ranks = [0u8; 1024];
     let mut t: usize = 0;
     while t < points.len() {
         ranks[t] = kleene::apart(points[t], left[t]);
         t += 1;
     }
-    ranks
 }
 
 // ---- since
@@ -131,24 +127,31 @@ fn since_value(start: usize, begins: Nearest, breaks: Nearest) -> u8
     code(sure, may)
 }
 
-// The row of `left since right`: going up, the last begins up to t - lower and the last breaks up to t decide the value at t.
-pub fn since_row(points: &[u8], left: &[u8], right: &[u8], lower: usize, upper: usize) -> [u8; 1024]
-    requires { ⌜ (length (now points) ≤ 1024) × (length (now left) ≡ length (now points)) × (length (now right) ≡ length (now points)) ⌝ }
-    ensures { λ r. ⌜ ((w : World Truth) (α β : ℕ → Truth) → Shows (now (points .entry)) (point three w) → Shows (now (left .entry)) α → Shows (now (right .entry)) β → Row (length (now (points .entry))) (since three w α β lower upper) r) ⌝ }
+// The row of `left since right`: going up, the last begins up to t - lower and the last breaks up to t decide the value at t. A cell of the
+// row has its minute's break before it has the value.
+fn since_row(
+    points: &[u8],
+    left: &[u8],
+    right: &[u8],
+    lower: usize,
+    upper: usize,
+    ranks: &mut [u8; 1024],
+    row: &mut [u8; 1024],
+)
+    requires { ⌜ (length (now points) ≤ 1024) × (length (now left) ≡ length (now points)) × (length (now right) ≡ length (now points)) × (length (now ranks) ≡ 1024) × (length (now row) ≡ 1024) ⌝ }
+    ensures { λ _. ⌜ (length (now (ranks .exit)) ≡ 1024) × (length (now (row .exit)) ≡ 1024) × ((w : World Truth) (α β : ℕ → Truth) → Shows (now (points .entry)) (point three w) → Shows (now (left .entry)) α → Shows (now (right .entry)) β → Row (length (now (points .entry))) (since three w α β lower upper) (now (row .exit))) ⌝ }
 {
-    let begin_at = begin_ranks(points, right);
-    let break_at = break_ranks(points, left);
-    let mut row = [0u8; 1024];
+    rank_begins(points, right, ranks);
+    rank_breaks(points, left, row);
     let mut begins = Nearest { sure: 0, may: 0 };
     let mut breaks = Nearest { sure: 0, may: 0 };
     let mut t: usize = 0;
     while t < points.len() {
-        begins = since_begin(&begin_at, lower, t, begins);
-        breaks = note(breaks, t + 1, break_at[t]);
+        begins = since_begin(ranks, lower, t, begins);
+        breaks = note(breaks, t + 1, row[t]);
         row[t] = since_value(minus(t, upper), begins, breaks);
         t += 1;
     }
-    row
 }
 
 // ---- until
@@ -191,13 +194,20 @@ const FAR: usize = 4096;
 
 // The row of `left until right`: going down, the first begins from t + lower on and the first breaks from t on decide the value at t. From
 // the end on everything is unknown, so that there a begin and a break may be, and none is sure.
-pub fn until_row(points: &[u8], left: &[u8], right: &[u8], lower: usize, upper: usize) -> [u8; 1024]
-    requires { ⌜ (length (now points) ≤ 1024) × (length (now left) ≡ length (now points)) × (length (now right) ≡ length (now points)) × (lower ≤ 1023) × (upper ≤ 1023) ⌝ }
-    ensures { λ r. ⌜ ((w : World Truth) (α β : ℕ → Truth) → Shows (now (points .entry)) (point three w) → Shows (now (left .entry)) α → Shows (now (right .entry)) β → Row (length (now (points .entry))) (until three w α β lower upper) r) ⌝ }
+fn until_row(
+    points: &[u8],
+    left: &[u8],
+    right: &[u8],
+    lower: usize,
+    upper: usize,
+    ranks: &mut [u8; 1024],
+    row: &mut [u8; 1024],
+)
+    requires { ⌜ (length (now points) ≤ 1024) × (length (now left) ≡ length (now points)) × (length (now right) ≡ length (now points)) × (lower ≤ 1023) × (upper ≤ 1023) × (length (now ranks) ≡ 1024) × (length (now row) ≡ 1024) ⌝ }
+    ensures { λ _. ⌜ (length (now (ranks .exit)) ≡ 1024) × (length (now (row .exit)) ≡ 1024) × ((w : World Truth) (α β : ℕ → Truth) → Shows (now (points .entry)) (point three w) → Shows (now (left .entry)) α → Shows (now (right .entry)) β → Row (length (now (points .entry))) (until three w α β lower upper) (now (row .exit))) ⌝ }
 {
-    let begin_at = begin_ranks(points, right);
-    let break_at = break_ranks(points, left);
-    let mut row = [0u8; 1024];
+    rank_begins(points, right, ranks);
+    rank_breaks(points, left, row);
     let mut t = points.len();
     let mut begins = Nearest {
         sure: FAR,
@@ -207,19 +217,23 @@ pub fn until_row(points: &[u8], left: &[u8], right: &[u8], lower: usize, upper: 
     while 0 < t {
         t -= 1;
         let j = t + lower;
-        begins = note(begins, j, until_begin(&begin_at, points.len(), j));
-        breaks = note(breaks, t, break_at[t]);
+        begins = note(begins, j, until_begin(ranks, points.len(), j));
+        breaks = note(breaks, t, row[t]);
         row[t] = until_value(t + upper, begins, breaks);
     }
-    row
 }
 
 // ---- the other rows
 
-pub fn true_row() -> [u8; 1024]
-    ensures { λ r. ⌜ ((m : ℕ) → m ≤ 1024 → Row m (λ t. true3) r) ⌝ }
+fn true_row(minutes: usize, row: &mut [u8; 1024])
+    requires { ⌜ (minutes ≤ 1024) × (length (now row) ≡ 1024) ⌝ }
+    ensures { λ _. ⌜ (length (now (row .exit)) ≡ 1024) × Row minutes (λ t. true3) (now (row .exit)) ⌝ }
 {
-    [1u8; 1024]
+    let mut t: usize = 0;
+    while t < minutes {
+        row[t] = 1;
+        t += 1;
+    }
 }
 
 // "A mark is its fact, else unknown": from the minute's two words, which propositions are known and their values.
@@ -237,44 +251,38 @@ fn fact_code(known: u32, values: u32, proposition: u8) -> u8
     1
 }
 
-pub fn proposition_row(facts: &[u32], proposition: u8, minutes: usize) -> [u8; 1024]
-    requires { ⌜ (minutes ≤ 1024) × (length (now facts) ≡ 2 * minutes) × (proposition < 32) ⌝ }
-    ensures { λ r. ⌜ ((k : Knowledge) → k .facts ≡ now (facts .entry) → Row minutes (fact k proposition) r) ⌝ }
+fn proposition_row(facts: &[u32], proposition: u8, minutes: usize, row: &mut [u8; 1024])
+    requires { ⌜ (minutes ≤ 1024) × (length (now facts) ≡ 2 * minutes) × (proposition < 32) × (length (now row) ≡ 1024) ⌝ }
+    ensures { λ _. ⌜ (length (now (row .exit)) ≡ 1024) × ((k : Knowledge) → k .facts ≡ now (facts .entry) → Row minutes (fact k proposition) (now (row .exit))) ⌝ }
 {
-    let mut row = [0u8; 1024];
     let mut t: usize = 0;
     while t < minutes {
         let at = 2 * t;
         row[t] = fact_code(facts[at], facts[at + 1], proposition);
         t += 1;
     }
-    row
 }
 
-pub fn not_row(operand: &[u8]) -> [u8; 1024]
-    requires { ⌜ length (now operand) ≤ 1024 ⌝ }
-    ensures { λ r. ⌜ ((f : ℕ → Truth) → Shows (now (operand .entry)) f → Row (length (now (operand .entry))) (λ t. not3 (f t)) r) ⌝ }
+fn not_row(operand: &[u8], row: &mut [u8; 1024])
+    requires { ⌜ (length (now operand) ≤ 1024) × (length (now row) ≡ 1024) ⌝ }
+    ensures { λ _. ⌜ (length (now (row .exit)) ≡ 1024) × ((f : ℕ → Truth) → Shows (now (operand .entry)) f → Row (length (now (operand .entry))) (λ t. not3 (f t)) (now (row .exit))) ⌝ }
 {
-    let mut row = [0u8; 1024];
     let mut t: usize = 0;
     while t < operand.len() {
         row[t] = kleene::not(operand[t]);
         t += 1;
     }
-    row
 }
 
-pub fn or_row(left: &[u8], right: &[u8]) -> [u8; 1024]
-    requires { ⌜ (length (now left) ≤ 1024) × (length (now right) ≡ length (now left)) ⌝ }
-    ensures { λ r. ⌜ ((f g : ℕ → Truth) → Shows (now (left .entry)) f → Shows (now (right .entry)) g → Row (length (now (left .entry))) (λ t. or3 (f t) (g t)) r) ⌝ }
+fn or_row(left: &[u8], right: &[u8], row: &mut [u8; 1024])
+    requires { ⌜ (length (now left) ≤ 1024) × (length (now right) ≡ length (now left)) × (length (now row) ≡ 1024) ⌝ }
+    ensures { λ _. ⌜ (length (now (row .exit)) ≡ 1024) × ((f g : ℕ → Truth) → Shows (now (left .entry)) f → Shows (now (right .entry)) g → Row (length (now (left .entry))) (λ t. or3 (f t) (g t)) (now (row .exit))) ⌝ }
 {
-    let mut row = [0u8; 1024];
     let mut t: usize = 0;
     while t < left.len() {
         row[t] = kleene::or(left[t], right[t]);
         t += 1;
     }
-    row
 }
 
 // ---- the work sheet
@@ -289,23 +297,29 @@ fn run_of(rows: &[u8], i: u8, minutes: usize) -> &[u8]
     &rows[at..end]
 }
 
-// The row of a subformula, from the rows of earlier ones.
-fn row_of(
+// Works the row of a subformula from the rows of earlier ones.
+fn work_row(
     sizes: Sizes,
     formula: Formula,
     points: &[u8],
     facts: &[u32],
     earlier: &[u8],
-) -> [u8; 1024]
-    requires { ⌜ Workable sizes formula (now points) (now facts) (now earlier) ⌝ }
-    ensures { λ r. ⌜ ((k : Knowledge) (v : ℕ → ℕ → Truth) → k .facts ≡ now (facts .entry) → Points sizes k (now (points .entry)) → Rows (sizes .minutes) (now (earlier .entry)) v → Row (sizes .minutes) (meaning three (world sizes k) v formula) r) ⌝ }
+    ranks: &mut [u8; 1024],
+    row: &mut [u8; 1024],
+)
+    requires { ⌜ Workable sizes formula (now points) (now facts) (now earlier) × (length (now ranks) ≡ 1024) × (length (now row) ≡ 1024) ⌝ }
+    ensures { λ _. ⌜ (length (now (ranks .exit)) ≡ 1024) × (length (now (row .exit)) ≡ 1024) × ((k : Knowledge) (v : ℕ → ℕ → Truth) → k .facts ≡ now (facts .entry) → Points sizes k (now (points .entry)) → Rows (sizes .minutes) (now (earlier .entry)) v → Row (sizes .minutes) (meaning three (world sizes k) v formula) (now (row .exit))) ⌝ }
 {
     let minutes = sizes.minutes;
     match formula {
-        Formula::True => true_row(),
-        Formula::Proposition(proposition) => proposition_row(facts, proposition, minutes),
-        Formula::Not(i) => not_row(run_of(earlier, i, minutes)),
-        Formula::Or(i, j) => or_row(run_of(earlier, i, minutes), run_of(earlier, j, minutes)),
+        Formula::True => true_row(minutes, row),
+        Formula::Proposition(proposition) => proposition_row(facts, proposition, minutes, row),
+        Formula::Not(i) => not_row(run_of(earlier, i, minutes), row),
+        Formula::Or(i, j) => or_row(
+            run_of(earlier, i, minutes),
+            run_of(earlier, j, minutes),
+            row,
+        ),
         Formula::Since {
             left,
             right,
@@ -317,6 +331,8 @@ fn row_of(
             run_of(earlier, right, minutes),
             lower as usize,
             upper as usize,
+            ranks,
+            row,
         ),
         Formula::Until {
             left,
@@ -329,6 +345,8 @@ fn row_of(
             run_of(earlier, right, minutes),
             lower as usize,
             upper as usize,
+            ranks,
+            row,
         ),
     }
 }
@@ -353,13 +371,23 @@ pub fn evaluate(policy: Policy, points: &[u8; 1024], facts: &[u32], valuation: &
     let sizes = policy.sizes;
     let minutes = sizes.minutes;
     let count = policy.count;
+    let mut ranks = [0u8; 1024];
+    let mut row = [0u8; 1024];
     let mut at: usize = 0;
     let mut i: usize = 0;
     while i < count {
         let line = policy.subformulas[i];
         let formula = line.formula;
         let end = at + minutes;
-        let row = row_of(sizes, formula, points, facts, &valuation[0..at]);
+        work_row(
+            sizes,
+            formula,
+            points,
+            facts,
+            &valuation[0..at],
+            &mut ranks,
+            &mut row,
+        );
         put_row(&mut valuation[at..end], &row);
         at = end;
         i += 1;

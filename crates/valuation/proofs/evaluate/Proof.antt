@@ -7,7 +7,7 @@ use native.Mathlib.Numerals.{add-one}
 use native.Mathlib.Omega.{arith}
 use borrow.Author.Needs.{needs}
 use denote.Ref.{now}
-use lib.ListN.{length, getD, take, drop, length-take, length-drop}
+use lib.ListN.{length, getD, take, drop, length-take, length-drop, length-replicate}
 use lib.Seq.{length-take-le}
 use Rattle.rows.specs.Over.{Over}
 use Rattle.rows.specs.Laws.{untouched}
@@ -22,31 +22,27 @@ use Rattle.valuation.proofs.evaluate.Tie as tie
 use Rattle.valuation.proofs.evaluate.Reads as reads
 use Rattle.valuation.proofs.evaluate.Lts as lts
 use Rattle.valuation.proofs.put_row.Reads as put-row-reads
-use Rattle.valuation.proofs.row_of.Reads as row-of-reads
+use Rattle.valuation.proofs.work_row.Reads as work-row-reads
 
 abbrev Inv-loop : tie.InvT-loop
-Inv-loop points facts valuation₀ policy sizes minutes count at₀ i₀ valuation at i =
-    (i ≤ count) × (at ≡ i * minutes) × (length valuation ≡ length valuation₀)
+Inv-loop points facts valuation₀ policy sizes minutes count ranks₀ row₀ at₀ i₀ valuation ranks row at i =
+    (i ≤ count) × (at ≡ i * minutes) × (length valuation ≡ length valuation₀) × (length ranks ≡ 1024) × (length row ≡ 1024)
     × ((k : Knowledge) → k .facts ≡ facts → Points (policy .sizes) k points → Over (cell policy k) 0 at valuation₀ valuation)
 
 abbrev μ-loop : tie.MeasureT-loop
-μ-loop points facts valuation₀ policy sizes minutes count at₀ i₀ valuation at i = count - i
+μ-loop points facts valuation₀ policy sizes minutes count ranks₀ row₀ at₀ i₀ valuation ranks row at i = count - i
 
--- src/lib.rt:323:5
 loop-holds : tie.Need-loop-holds Inv-loop μ-loop
 loop-holds c =
     let x = c .before .before .before .args in
-    (omega arith, sym (zero-mul (x .t1 .sizes .minutes)), refl, λ k e p. untouched (cell (x .t1) k) 0 (now (x .valuation)))
+    (omega arith, sym (zero-mul (x .t1 .sizes .minutes)), refl, length-replicate {A = ℕ} 1024 0, length-replicate {A = ℕ} 1024 0, λ k e p. untouched (cell (x .t1) k) 0 (now (x .valuation)))
 
--- src/lib.rt:324:20
 mul-line : tie.Need-mul-line Inv-loop μ-loop
 mul-line c = omega (arith, c .before .before .before .before .before .pre .0 .count .high)
 
--- src/lib.rt:324:20
 element-copy-out-line : tie.Need-element-copy-out-line Inv-loop μ-loop
 element-copy-out-line c = omega (arith, c .before .before .before .before .before .pre .0 .count .high)
 
--- src/lib.rt:326:19
 add-end : tie.Need-add-end Inv-loop μ-loop
 add-end c =
     let l = c .before .before in
@@ -57,17 +53,14 @@ add-end c =
     let pre = s .pre in
     omega arith
 
--- src/lib.rt:327:57
-sub-row-of : tie.Need-sub-row-of Inv-loop μ-loop
-sub-row-of c = omega arith
+sub-work-row : tie.Need-sub-work-row Inv-loop μ-loop
+sub-work-row c = omega arith
 
--- src/lib.rt:327:57
-part-row-of-start : tie.Need-part-row-of-start Inv-loop μ-loop
-part-row-of-start c = search needs
+part-work-row-start : tie.Need-part-work-row-start Inv-loop μ-loop
+part-work-row-start c = search needs
 
--- src/lib.rt:327:57
-part-row-of-end : tie.Need-part-row-of-end Inv-loop μ-loop
-part-row-of-end c =
+part-work-row-end : tie.Need-part-work-row-end Inv-loop μ-loop
+part-work-row-end c =
     let l = c .before .before .before .before in
     let s = l .before .before .before .before in
     let p = s .args .t1 in
@@ -76,56 +69,51 @@ part-row-of-end c =
     let pre = s .pre in
     search needs
 
--- src/lib.rt:327:19
-row-of-requires : tie.Need-row-of-requires Inv-loop μ-loop
-row-of-requires c κs =
-    let l = c .before .before .before .before .before in
+work-row-requires : tie.Need-work-row-requires Inv-loop μ-loop
+work-row-requires c κs =
+    let l = c .before .before .before .before .before .before .before in
     let s = l .before .before .before .before in
     let p = s .args .t1 in
-    let h : l .loop .i < p .count = c .before .before .before .before .loop-test .taken in
+    let h : l .loop .i < p .count = c .before .before .before .before .before .before .loop-test .taken in
     let fits = next-row (p .count) (p .sizes .minutes) (l .loop .i) h in
-    let pre = s .pre in
-    workable p (pre .0) (l .loop .i) h (now (s .args .points)) (now (s .args .facts)) (take (l .loop .at - 0) (l .loop .valuation)) (pre .1) (pre .2)
-    (length-take-le (l .loop .at - 0) (l .loop .valuation) (omega arith) ∙ omega arith)
+    let pre = s .pre in (
+      workable p (pre .0) (l .loop .i) h (now (s .args .points)) (now (s .args .facts)) (take (l .loop .at - 0) (l .loop .valuation)) (pre .1) (pre .2)
+          (length-take-le (l .loop .at - 0) (l .loop .valuation) (omega arith) ∙ omega arith),
+      l .loop .inv .3,
+      l .loop .inv .4,
+    )
 
--- src/lib.rt:328:17
 sub-put-row : tie.Need-sub-put-row Inv-loop μ-loop
 sub-put-row c = omega arith
 
--- src/lib.rt:328:17
 part-put-row-start : tie.Need-part-put-row-start Inv-loop μ-loop
 part-put-row-start c = search needs
 
--- src/lib.rt:328:17
 part-put-row-end : tie.Need-part-put-row-end Inv-loop μ-loop
 part-put-row-end c =
-    let l = c .before .before .before .before .before .before in
+    let l = c .before .before .before .before .before .before .before .before in
     let s = l .before .before .before .before in
     let p = s .args .t1 in
-    let h : l .loop .i < p .count = c .before .before .before .before .before .loop-test .taken in
+    let h : l .loop .i < p .count = c .before .before .before .before .before .before .before .loop-test .taken in
     let fits = next-row (p .count) (p .sizes .minutes) (l .loop .i) h in
     let pre = s .pre in
-    search needs
+    omega arith
 
--- src/lib.rt:328:9
 put-row-requires : tie.Need-put-row-requires Inv-loop μ-loop
-put-row-requires c κs = simp (length-take, length-drop) (omega (arith, c .before .before .before .before .before .before .before .before .before .before .before .before .pre .0 .minutes .high))
+put-row-requires c κs = simp (length-take, length-drop) (omega (arith, c .before .before .before .before .before .before .before .before .before .before .before .before .before .before .pre .0 .minutes .high))
 
--- src/lib.rt:330:9
 add-i : tie.Need-add-i Inv-loop μ-loop
-add-i c = omega (arith, c .before .before .before .before .before .before .before .before .before .before .before .before .before .before .before .pre .0 .count .high)
+add-i c = omega (arith, c .before .before .before .before .before .before .before .before .before .before .before .before .before .before .before .before .before .pre .0 .count .high)
 
--- src/lib.rt:323:5
 loop-less : tie.Need-loop-less Inv-loop μ-loop
 loop-less c = omega arith
 
--- src/lib.rt:323:5
 loop-again : tie.Need-loop-again Inv-loop μ-loop
 loop-again c =
-    let l = c .before .before .before .before .before .before .before .before .before .before .before in
+    let l = c .before .before .before .before .before .before .before .before .before .before .before .before .before in
     let s = l .before .before .before .before in
     let p = s .args .t1 in
-    let h : l .loop .i < p .count = c .before .before .before .before .before .before .before .before .before .before .loop-test .taken in
+    let h : l .loop .i < p .count = c .before .before .before .before .before .before .before .before .before .before .before .before .loop-test .taken in
     let fits = next-row (p .count) (p .sizes .minutes) (l .loop .i) h in
     let pre = s .pre in
     let at = l .loop .at in
@@ -137,24 +125,25 @@ loop-again c =
     let back = given-back at m new run in
     let here : at ≡ at - 0 = omega arith in
     let put = c .before .before .put-row in
-    let row = c .before .before .before .before .before .row-of in (
+    let work = c .before .before .before .before .before .work-row in
+    let row = work .last .1 .1 .1 .1 .1 .1 .0 in (
       omega arith,
       omega (arith, add-one (l .loop .i), suc-mul (l .loop .i) m),
       back-length at m new run (omega arith) (put .ensures .long) ∙ l .loop .inv .2,
+      work .ensures .0,
+      work .ensures .1,
       λ k e q.
-          let old = l .loop .inv .3 k e q in
+          let old = l .loop .inv .5 k e q in
           subst (λ (z : List ℕ). Over (cell p k) 0 (at + m) (now (s .args .valuation)) z) back
-          (next p (pre .0) (l .loop .i) h k at (now (s .args .valuation)) new (row .result) part run (l .loop .inv .1) (omega arith) old
-          (row .ensures k (value p k) e q (rows-show p k (pre .0 .earlier) (at - 0) (now (s .args .valuation)) new (omega arith) (subst (λ (j : ℕ). Over (cell p k) 0 j (now (s .args .valuation)) new) here old)))
+          (next p (pre .0) (l .loop .i) h k at (now (s .args .valuation)) new row part run (l .loop .inv .1) (omega arith) old
+          (work .ensures .2 k (value p k) e q (rows-show p k (pre .0 .earlier) (at - 0) (now (s .args .valuation)) new (omega arith) (subst (λ (j : ℕ). Over (cell p k) 0 j (now (s .args .valuation)) new) here old)))
           (ap (λ (j : ℕ). take j (drop at new)) n)
           (put .ensures)),
     )
 
--- src/lib.rt:314:1
 same-length : tie.Need-same-length Inv-loop μ-loop
 same-length c = search needs
 
--- src/lib.rt:314:1
 returns : tie.Need-returns Inv-loop μ-loop
 unfolding valuation-of
 returns c k e q =
@@ -164,7 +153,7 @@ returns c k e q =
     let last : l .loop .i ≡ p .count = omega arith in
     let done : l .loop .at ≡ p .count * p .sizes .minutes = l .loop .inv .1 ∙ ap (λ (n : ℕ). n * p .sizes .minutes) last in
     from-front (cell p k) (p .count * p .sizes .minutes) (now (s .args .valuation)) (l .loop .valuation) (s .pre .3)
-    (subst (λ (n : ℕ). Over (cell p k) 0 n (now (s .args .valuation)) (l .loop .valuation)) done (l .loop .inv .3 k e q))
+    (subst (λ (n : ℕ). Over (cell p k) 0 n (now (s .args .valuation)) (l .loop .valuation)) done (l .loop .inv .5 k e q))
 
 pub evaluate-spec : {M : Type 1} → statement M
 evaluate-spec =
@@ -176,10 +165,10 @@ evaluate-spec =
     mul-line
     element-copy-out-line
     add-end
-    sub-row-of
-    part-row-of-start
-    part-row-of-end
-    row-of-requires
+    sub-work-row
+    part-work-row-start
+    part-work-row-end
+    work-row-requires
     sub-put-row
     part-put-row-start
     part-put-row-end

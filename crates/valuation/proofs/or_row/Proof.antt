@@ -4,7 +4,7 @@ use mathlib.Core.List.{List}
 use Prim.Native.Nat.{ℕ, _+_, _-_, _*_, _≤_}
 use native.Mathlib.Omega.{arith}
 use denote.Ref.{now}
-use lib.ListN.{length, getD, replicate, length-replicate}
+use lib.ListN.{length, getD}
 use Rattle.kleene.specs.Truth.{Truth, codeOf, valueOf, or3}
 use Rattle.rows.specs.Over.{Over}
 use Rattle.rows.specs.Laws.{untouched, one-more}
@@ -20,59 +20,53 @@ abbrev of : List ℕ → List ℕ → ℕ → Truth
 of left right s = or3 (valueOf (getD left s 0)) (valueOf (getD right s 0))
 
 abbrev Inv-loop : tie.InvT-loop
-Inv-loop left right row₀ t₀ row t = (t ≤ length left) × Over (λ s. codeOf (of left right s)) 0 t (replicate 1024 0) row
+Inv-loop left right row₀ t₀ row t = (t ≤ length left) × Over (λ s. codeOf (of left right s)) 0 t row₀ row
 
 abbrev μ-loop : tie.MeasureT-loop
 μ-loop left right row₀ t₀ row t = length left - t
 
--- src/lib.rt:235:5
 loop-holds : tie.Need-loop-holds Inv-loop μ-loop
 loop-holds c =
     let x = c .before .before .args in
-    (omega arith, untouched (λ s. codeOf (of (now (x .left)) (now (x .right)) s)) 0 (replicate 1024 0))
+    (omega arith, untouched (λ s. codeOf (of (now (x .left)) (now (x .right)) s)) 0 (now (x .row)))
 
--- src/lib.rt:236:29
 shared-slice-read-or : tie.Need-shared-slice-read-or Inv-loop μ-loop
 shared-slice-read-or c = omega arith
 
--- src/lib.rt:236:38
 shared-slice-read-or-2 : tie.Need-shared-slice-read-or-2 Inv-loop μ-loop
 shared-slice-read-or-2 c = omega arith
 
--- src/lib.rt:236:18
 or-requires : tie.Need-or-requires Inv-loop μ-loop
 or-requires c κs = omega arith
 
--- src/lib.rt:236:9
-array-write-row : tie.Need-array-write-row Inv-loop μ-loop
-array-write-row c = omega arith
+element-write-row : tie.Need-element-write-row Inv-loop μ-loop
+element-write-row c =
+    let l = c .before .before .before .before in
+    omega (arith, l .loop .inv .1 .long)
 
--- src/lib.rt:237:9
 add-t : tie.Need-add-t Inv-loop μ-loop
 add-t c = omega arith
 
--- src/lib.rt:235:5
 loop-less : tie.Need-loop-less Inv-loop μ-loop
 loop-less c = omega arith
 
--- src/lib.rt:235:5
 loop-again : tie.Need-loop-again Inv-loop μ-loop
 loop-again c =
     let l = c .before .before .before .before in
     let x = l .before .before .before .args in
     let old = l .loop .inv .1 in
-    (omega arith, one-more (λ s. codeOf (of (now (x .left)) (now (x .right)) s)) 0 (l .loop .t) (replicate 1024 0) (l .loop .row) (c .or .result) old (omega arith) (omega (arith, old .long, length-replicate {A = ℕ} 1024 0)) (c .or .ensures))
+    (omega arith, one-more (λ s. codeOf (of (now (x .left)) (now (x .right)) s)) 0 (l .loop .t) (now (x .row)) (l .loop .row) (c .or .result) old (omega arith) (omega (arith, old .long)) (c .or .ensures))
 
--- src/lib.rt:229:1
 returns : tie.Need-returns Inv-loop μ-loop
-returns c f g P Q =
+returns c =
     let l = c .before in
-    let x = l .before .before .before .args in
+    let s = l .before .before .before in
+    let x = s .args in
     let m = now (x .left) in
     let n = now (x .right) in
     let done : l .loop .t ≡ length m = omega arith in
-    read-as (length m) (of m n) (λ t. or3 (f t) (g t)) (l .loop .row) (λ t. ap₂ or3 (P t) (Q t))
-    (filled (length m) (of m n) (l .loop .row) (subst (λ (i : ℕ). Over (λ s. codeOf (of m n s)) 0 i (replicate 1024 0) (l .loop .row)) done (l .loop .inv .1)))
+    let all = subst (λ (i : ℕ). Over (λ s. codeOf (of m n s)) 0 i (now (x .row)) (l .loop .row)) done (l .loop .inv .1) in
+    (all .long ∙ s .pre .2, λ f g P Q. read-as (length m) (of m n) (λ t. or3 (f t) (g t)) (l .loop .row) (λ t. ap₂ or3 (P t) (Q t)) (filled (length m) (of m n) (now (x .row)) (l .loop .row) all))
 
 pub or-row-spec : {M : Type 1} → statement M
 or-row-spec =
@@ -84,7 +78,7 @@ or-row-spec =
     shared-slice-read-or
     shared-slice-read-or-2
     or-requires
-    array-write-row
+    element-write-row
     add-t
     loop-less
     loop-again

@@ -1,10 +1,10 @@
 -- `valuation::since_row` meets its contract. The invariant of its loop: the cells before t are the since's, the breaks before t and the begins
 -- before t - lower are noted. The measure is what is left of the minutes. Assumes nothing.
-use mathlib.Core.Path.{_≡_, subst}
+use mathlib.Core.Path.{_≡_, subst, _∙_}
 use Prim.Native.Nat.{ℕ, _-_, _≤_}
 use native.Mathlib.Omega.{arith}
 use denote.Ref.{now}
-use lib.ListN.{length, replicate, length-replicate}
+use lib.ListN.{length, length-set}
 use Rattle.kleene.specs.Truth.{Truth, codeOf}
 use Rattle.rows.specs.Over.{Over}
 use Rattle.rows.specs.Laws.{untouched, one-more}
@@ -18,45 +18,46 @@ use Rattle.valuation.proofs.since_row.Statement.{statement}
 use Rattle.valuation.proofs.since_row.Tie as tie
 use Rattle.valuation.proofs.since_row.Reads as reads
 use Rattle.valuation.proofs.since_row.Lts as lts
-use Rattle.valuation.proofs.begin_ranks.Reads as begin-ranks-reads
-use Rattle.valuation.proofs.break_ranks.Reads as break-ranks-reads
+use Rattle.valuation.proofs.rank_begins.Reads as rank-begins-reads
+use Rattle.valuation.proofs.rank_breaks.Reads as rank-breaks-reads
 use Rattle.valuation.proofs.minus.Reads as minus-reads
 use Rattle.valuation.proofs.note.Reads as note-reads
 use Rattle.valuation.proofs.since_begin.Reads as since-begin-reads
 use Rattle.valuation.proofs.since_value.Reads as since-value-reads
 
 abbrev Inv-loop : tie.InvT-loop
-Inv-loop points left right lower upper begin-at break-at row₀ begins₀ breaks₀ t₀ row begins breaks t =
-    (t ≤ length points)
+Inv-loop points left right lower upper ranks row₀ begins₀ breaks₀ t₀ row begins breaks t =
+    (t ≤ length points) × (length row ≡ 1024)
     × ((w : World Truth) (α β : ℕ → Truth) → Shows points (point three w) → Shows left α → Shows right β
     → Lasts (begun (point three w) β) (t - lower) begins × Lasts (broken (point three w) α) t breaks
-    × Over (λ s. codeOf (since three w α β lower upper s)) 0 t (replicate 1024 0) row)
+    × Over (λ s. codeOf (since three w α β lower upper s)) 0 t row₀ row)
 
 abbrev μ-loop : tie.MeasureT-loop
-μ-loop points left right lower upper begin-at break-at row₀ begins₀ breaks₀ t₀ row begins breaks t = length points - t
+μ-loop points left right lower upper ranks row₀ begins₀ breaks₀ t₀ row begins breaks t = length points - t
 
-begin-ranks-requires : tie.Need-begin-ranks-requires Inv-loop μ-loop
-begin-ranks-requires c κs = (omega arith, omega arith)
+rank-begins-requires : tie.Need-rank-begins-requires Inv-loop μ-loop
+rank-begins-requires c κs = (omega arith, omega arith, omega arith)
 
-break-ranks-requires : tie.Need-break-ranks-requires Inv-loop μ-loop
-break-ranks-requires c κs = (omega arith, omega arith)
+rank-breaks-requires : tie.Need-rank-breaks-requires Inv-loop μ-loop
+rank-breaks-requires c κs = (omega arith, omega arith, omega arith)
 
 loop-holds : tie.Need-loop-holds Inv-loop μ-loop
 loop-holds c =
-    let x = c .before .before .before .before .before .args in (
+    let x = c .before .before .before .before .before .before .before .args in (
       omega arith,
+      c .rank-breaks .ensures .0,
       λ w α β P Q R.
-          (no-last (begun (point three w) β) (0 - x .lower) (omega arith), no-last (broken (point three w) α) 0 (omega arith), untouched (λ s. codeOf (since three w α β (x .lower) (x .upper) s)) 0 (replicate 1024 0)),
+          (no-last (begun (point three w) β) (0 - x .lower) (omega arith), no-last (broken (point three w) α) 0 (omega arith), untouched (λ s. codeOf (since three w α β (x .lower) (x .upper) s)) 0 _),
     )
 
 since-begin-requires : tie.Need-since-begin-requires Inv-loop μ-loop
-since-begin-requires c κs = (omega arith, c .before .before .before .before .begin-ranks .ensures .0)
+since-begin-requires c κs = (omega arith, c .before .before .before .before .before .rank-begins .ensures .0)
 
 add-note : tie.Need-add-note Inv-loop μ-loop
 add-note c = omega arith
 
-array-read-note : tie.Need-array-read-note Inv-loop μ-loop
-array-read-note c = omega arith
+element-copy-out-note : tie.Need-element-copy-out-note Inv-loop μ-loop
+element-copy-out-note c = omega arith
 
 note-requires : tie.Need-note-requires Inv-loop μ-loop
 note-requires c κs = omega arith
@@ -67,8 +68,8 @@ minus-requires c κs = omega arith
 since-value-requires : tie.Need-since-value-requires Inv-loop μ-loop
 since-value-requires c κs = omega arith
 
-array-write-row : tie.Need-array-write-row Inv-loop μ-loop
-array-write-row c = omega arith
+element-write-row : tie.Need-element-write-row Inv-loop μ-loop
+element-write-row c = omega arith
 
 add-t : tie.Need-add-t Inv-loop μ-loop
 add-t c = omega arith
@@ -78,28 +79,34 @@ loop-less c = omega arith
 
 loop-again : tie.Need-loop-again Inv-loop μ-loop
 loop-again c =
-    let l = c .before .before .before .before .before .before in
-    let x = l .before .before .before .before .before .before .args in
+    let l = c .before .before .before .before .before .before .before in
+    let x = l .before .before .before .before .before .before .before .before .args in
     let m = length (now (x .points)) in
     let t = l .loop .t in (
       omega arith,
+      length-set (l .loop .row) t (c .since-value .result) ∙ l .loop .inv .1,
       λ w α β P Q R.
-          let old = l .loop .inv .1 w α β P Q R in
-          let begins = c .before .before .before .since-begin .ensures m (begun (point three w) β) (omega arith) (l .before .before .begin-ranks .ensures .1 (point three w) β P R) (old .0) in
-          let ends = lasts-step t _ (l .loop .breaks) (c .before .before .note .result) (broken (point three w) α) (l .before .break-ranks .ensures .1 (point three w) α P Q t (omega arith)) (c .before .before .note .ensures) (old .1) in (
+          let old = l .loop .inv .2 w α β P Q R in
+          let begins = c .before .before .before .before .since-begin .ensures m (begun (point three w) β) (omega arith) (l .before .before .before .rank-begins .ensures .1 (point three w) β P R) (old .0) in
+          let break = old .2 .above t (omega arith) ∙ l .before .rank-breaks .ensures .1 (point three w) α P Q t (omega arith) in
+          let ends = lasts-step t _ (l .loop .breaks) (c .before .before .note .result) (broken (point three w) α) break (c .before .before .note .ensures) (old .1) in (
             begins,
             ends,
-            one-more (λ s. codeOf (since three w α β (x .lower) (x .upper) s)) 0 t (replicate 1024 0) (l .loop .row) (c .since-value .result) (old .2) (omega arith) (omega (arith, old .2 .long, length-replicate {A = ℕ} 1024 0)) (c .since-value .ensures w α β (x .lower) (x .upper) t (c .before .minus .ensures) begins ends),
+            one-more (λ s. codeOf (since three w α β (x .lower) (x .upper) s)) 0 t _ (l .loop .row) (c .since-value .result) (old .2) (omega arith) (omega arith) (c .since-value .ensures w α β (x .lower) (x .upper) t (c .before .minus .ensures) begins ends),
           ),
     )
 
 returns : tie.Need-returns Inv-loop μ-loop
-returns c w α β P Q R =
+returns c =
     let l = c .before in
-    let x = l .before .before .before .before .before .before .args in
-    let done : l .loop .t ≡ length (now (x .points)) = omega arith in
-    subst (λ (m : ℕ). Row m (since three w α β (x .lower) (x .upper)) (l .loop .row)) done
-    (filled (l .loop .t) (since three w α β (x .lower) (x .upper)) (l .loop .row) (l .loop .inv .1 w α β P Q R .2))
+    let x = l .before .before .before .before .before .before .before .before .args in
+    let done : l .loop .t ≡ length (now (x .points)) = omega arith in (
+      l .before .before .before .rank-begins .ensures .0,
+      l .loop .inv .1,
+      λ w α β P Q R.
+          subst (λ (m : ℕ). Row m (since three w α β (x .lower) (x .upper)) (l .loop .row)) done
+          (filled (l .loop .t) (since three w α β (x .lower) (x .upper)) _ (l .loop .row) (l .loop .inv .2 w α β P Q R .2)),
+    )
 
 pub since-row-spec : {M : Type 1} → statement M
 since-row-spec =
@@ -107,16 +114,16 @@ since-row-spec =
     (tie.spec
     Inv-loop
     μ-loop
-    begin-ranks-requires
-    break-ranks-requires
+    rank-begins-requires
+    rank-breaks-requires
     loop-holds
     since-begin-requires
     add-note
-    array-read-note
+    element-copy-out-note
     note-requires
     minus-requires
     since-value-requires
-    array-write-row
+    element-write-row
     add-t
     loop-less
     loop-again

@@ -1,10 +1,10 @@
 -- `valuation::until_row` meets its contract. The invariant of its loop: the cells from t on are the until's, the breaks from t on and the begins
 -- from t + lower on are noted. The measure is t. Assumes nothing.
-use mathlib.Core.Path.{_≡_, refl, subst}
-use Prim.Native.Nat.{ℕ, _+_, _-_, _≤_}
+use mathlib.Core.Path.{_≡_, refl, subst, _∙_}
+use Prim.Native.Nat.{ℕ, _+_, _-_, _≤_, _<_}
 use native.Mathlib.Omega.{arith}
 use denote.Ref.{now}
-use lib.ListN.{length, replicate, length-replicate}
+use lib.ListN.{length, length-set}
 use Rattle.kleene.specs.Truth.{Truth, codeOf}
 use Rattle.rows.specs.Over.{Over}
 use Rattle.rows.specs.Laws.{untouched, one-before}
@@ -12,47 +12,49 @@ use Rattle.mtl.specs.Algebra.{three}
 use Rattle.mtl.specs.Reading.{World, point, until}
 use Rattle.valuation.specs.Rows.{Shows, Row}
 use Rattle.valuation.specs.Indexes.{begun, broken, Firsts}
-use Rattle.valuation.proofs.Shown.{begun-past, broken-past, filled}
+use Rattle.valuation.proofs.Shown.{begun-past, broken-past}
 use Rattle.valuation.proofs.Steps.{no-first, firsts-step}
 use Rattle.valuation.proofs.until_row.Statement.{statement}
 use Rattle.valuation.proofs.until_row.Tie as tie
 use Rattle.valuation.proofs.until_row.Reads as reads
 use Rattle.valuation.proofs.until_row.Lts as lts
-use Rattle.valuation.proofs.begin_ranks.Reads as begin-ranks-reads
-use Rattle.valuation.proofs.break_ranks.Reads as break-ranks-reads
+use Rattle.valuation.proofs.rank_begins.Reads as rank-begins-reads
+use Rattle.valuation.proofs.rank_breaks.Reads as rank-breaks-reads
 use Rattle.valuation.proofs.note.Reads as note-reads
 use Rattle.valuation.proofs.until_begin.Reads as until-begin-reads
 use Rattle.valuation.proofs.until_value.Reads as until-value-reads
 
 abbrev Inv-loop : tie.InvT-loop
-Inv-loop points left right lower upper begin-at break-at row₀ t₀ begins₀ breaks₀ row t begins breaks =
-    (t ≤ length points)
+Inv-loop points left right lower upper ranks row₀ t₀ begins₀ breaks₀ row t begins breaks =
+    (t ≤ length points) × (length row ≡ 1024)
     × ((w : World Truth) (α β : ℕ → Truth) → Shows points (point three w) → Shows left α → Shows right β
     → Firsts (begun (point three w) β) (t + lower) begins × Firsts (broken (point three w) α) t breaks
-    × Over (λ s. codeOf (until three w α β lower upper s)) t (length points) (replicate 1024 0) row)
+    × Over (λ s. codeOf (until three w α β lower upper s)) t (length points) row₀ row)
 
 abbrev μ-loop : tie.MeasureT-loop
-μ-loop points left right lower upper begin-at break-at row₀ t₀ begins₀ breaks₀ row t begins breaks = t
+μ-loop points left right lower upper ranks row₀ t₀ begins₀ breaks₀ row t begins breaks = t
 
-begin-ranks-requires : tie.Need-begin-ranks-requires Inv-loop μ-loop
-begin-ranks-requires c κs = (omega arith, omega arith)
+rank-begins-requires : tie.Need-rank-begins-requires Inv-loop μ-loop
+rank-begins-requires c κs = (omega arith, omega arith, omega arith)
 
-break-ranks-requires : tie.Need-break-ranks-requires Inv-loop μ-loop
-break-ranks-requires c κs = (omega arith, omega arith)
+rank-breaks-requires : tie.Need-rank-breaks-requires Inv-loop μ-loop
+rank-breaks-requires c κs = (omega arith, omega arith, omega arith)
 
-add-t14 : tie.Need-add-t14 Inv-loop μ-loop
-add-t14 c = omega arith
+add-t15 : tie.Need-add-t15 Inv-loop μ-loop
+add-t15 c = omega arith
 
 loop-holds : tie.Need-loop-holds Inv-loop μ-loop
 loop-holds c =
-    let x = c .before .before .before .before .before .args in
+    let s = c .before .before .before .before .before .before .before in
+    let x = s .args in
     let points = now (x .points) in
     let m = length points in (
       omega arith,
+      c .rank-breaks .ensures .0,
       λ w α β P Q R. (
-        no-first (begun (point three w) β) (m + x .lower) (omega arith) (λ i l. begun-past points (now (x .right)) (point three w) β P R i (omega arith) (omega arith)),
-        no-first (broken (point three w) α) m (omega arith) (λ i l. broken-past points (now (x .left)) (point three w) α P Q i (omega arith) (omega arith)),
-        untouched (λ s. codeOf (until three w α β (x .lower) (x .upper) s)) m (replicate 1024 0),
+        no-first (begun (point three w) β) (m + x .lower) (omega arith) (λ i l. begun-past points (now (x .right)) (point three w) β P R i (omega arith) (omega (arith, s .pre .2))),
+        no-first (broken (point three w) α) m (omega arith) (λ i l. broken-past points (now (x .left)) (point three w) α P Q i (omega arith) (omega (arith, s .pre .1))),
+        untouched (λ s. codeOf (until three w α β (x .lower) (x .upper) s)) m _,
       ),
     )
 
@@ -63,13 +65,13 @@ add-j : tie.Need-add-j Inv-loop μ-loop
 add-j c = omega arith
 
 until-begin-requires : tie.Need-until-begin-requires Inv-loop μ-loop
-until-begin-requires c κs = (omega arith, c .before .before .before .before .begin-ranks .ensures .0)
+until-begin-requires c κs = (omega arith, c .before .before .before .before .before .rank-begins .ensures .0)
 
 note-requires : tie.Need-note-requires Inv-loop μ-loop
 note-requires c κs = omega arith
 
-array-read-note : tie.Need-array-read-note Inv-loop μ-loop
-array-read-note c = omega arith
+element-copy-out-note : tie.Need-element-copy-out-note Inv-loop μ-loop
+element-copy-out-note c = omega arith
 
 note-requires-2 : tie.Need-note-requires-2 Inv-loop μ-loop
 note-requires-2 c κs = omega arith
@@ -80,42 +82,47 @@ add-until-value c = omega arith
 until-value-requires : tie.Need-until-value-requires Inv-loop μ-loop
 until-value-requires c κs = omega arith
 
-array-write-row : tie.Need-array-write-row Inv-loop μ-loop
-array-write-row c = omega arith
+element-write-row : tie.Need-element-write-row Inv-loop μ-loop
+element-write-row c = omega arith
 
 loop-less : tie.Need-loop-less Inv-loop μ-loop
 loop-less c = omega arith
 
 loop-again : tie.Need-loop-again Inv-loop μ-loop
 loop-again c =
-    let l = c .before .before .before .before .before .before in
-    let s = l .before .before .before .before .before .before in
+    let l = c .before .before .before .before .before .before .before in
+    let s = l .before .before .before .before .before .before .before .before in
     let x = s .args in
     let points = now (x .points) in
     let t = l .loop .t in
-    let more : t ≡ t - 1 + 1 = omega arith in
-    let there : t + x .lower ≡ t - 1 + x .lower + 1 = omega arith in (
+    let on : 0 < t = c .before .before .before .before .before .before .loop-test .taken in
+    let more : t ≡ t - 1 + 1 = omega (arith, on) in
+    let there : t + x .lower ≡ t - 1 + x .lower + 1 = omega (arith, on) in (
       omega arith,
+      length-set (l .loop .row) (t - 1) (c .until-value .result) ∙ l .loop .inv .1,
       λ w α β P Q R.
-          let old = l .loop .inv .1 w α β P Q R in
-          let b = c .before .before in
-          let ranks = l .before .before .begin-ranks .ensures .1 (point three w) β P R in
+          let old = l .loop .inv .2 w α β P Q R in
+          let b = c .before .before .before in
+          let ranks = l .before .before .before .rank-begins .ensures .1 (point three w) β P R in
           let begin = b .before .until-begin .ensures (begun (point three w) β) ranks (λ past. begun-past points (now (x .right)) (point three w) β P R (t - 1 + x .lower) past (omega (arith, past, s .pre .2))) in
           let begins = firsts-step (t - 1 + x .lower) (b .before .until-begin .result) (l .loop .begins) (b .note .result) (begun (point three w) β) begin (b .note .ensures) (subst (λ (n : ℕ). Firsts (begun (point three w) β) n (l .loop .begins)) there (old .0)) in
-          let ends = firsts-step (t - 1) _ (l .loop .breaks) (c .before .note2 .result) (broken (point three w) α) (l .before .break-ranks .ensures .1 (point three w) α P Q (t - 1) (omega arith)) (c .before .note2 .ensures) (subst (λ (n : ℕ). Firsts (broken (point three w) α) n (l .loop .breaks)) more (old .1)) in (
+          let break = old .2 .below (t - 1) (omega arith) ∙ l .before .rank-breaks .ensures .1 (point three w) α P Q (t - 1) (omega arith) in
+          let ends = firsts-step (t - 1) _ (l .loop .breaks) (c .before .note2 .result) (broken (point three w) α) break (c .before .note2 .ensures) (subst (λ (n : ℕ). Firsts (broken (point three w) α) n (l .loop .breaks)) more (old .1)) in (
             begins,
             ends,
-            one-before (λ s. codeOf (until three w α β (x .lower) (x .upper) s)) t (length points) (replicate 1024 0) (l .loop .row) (c .until-value .result) (old .2) (t - 1) (omega arith) (omega (arith, old .2 .long, length-replicate {A = ℕ} 1024 0)) (omega arith) (c .until-value .ensures w α β (x .lower) (x .upper) (t - 1) refl (omega arith) begins ends),
+            one-before (λ s. codeOf (until three w α β (x .lower) (x .upper) s)) t (length points) _ (l .loop .row) (c .until-value .result) (old .2) (t - 1) (omega arith) (omega arith) (omega arith) (c .until-value .ensures w α β (x .lower) (x .upper) (t - 1) refl (omega arith) begins ends),
           ),
     )
 
 returns : tie.Need-returns Inv-loop μ-loop
-returns c w α β P Q R =
+returns c =
     let l = c .before in
-    let x = l .before .before .before .before .before .before .args in
-    let done : l .loop .t ≡ 0 = omega arith in
-    filled (length (now (x .points))) (until three w α β (x .lower) (x .upper)) (l .loop .row)
-    (subst (λ (n : ℕ). Over (λ s. codeOf (until three w α β (x .lower) (x .upper) s)) n (length (now (x .points))) (replicate 1024 0) (l .loop .row)) done (l .loop .inv .1 w α β P Q R .2))
+    let x = l .before .before .before .before .before .before .before .before .args in
+    let done : l .loop .t ≡ 0 = omega arith in (
+      l .before .before .before .rank-begins .ensures .0,
+      l .loop .inv .1,
+      λ w α β P Q R i h. l .loop .inv .2 w α β P Q R .2 .inside i (omega (arith, done)) h,
+    )
 
 pub until-row-spec : {M : Type 1} → statement M
 until-row-spec =
@@ -123,19 +130,19 @@ until-row-spec =
     (tie.spec
     Inv-loop
     μ-loop
-    begin-ranks-requires
-    break-ranks-requires
-    add-t14
+    rank-begins-requires
+    rank-breaks-requires
+    add-t15
     loop-holds
     sub-t
     add-j
     until-begin-requires
     note-requires
-    array-read-note
+    element-copy-out-note
     note-requires-2
     add-until-value
     until-value-requires
-    array-write-row
+    element-write-row
     loop-less
     loop-again
     returns)

@@ -1,26 +1,26 @@
--- `valuation::break_ranks` meets its contract. The invariant of its loop: the cells before t are the ranks of the breaks. Assumes nothing.
-use mathlib.Core.Path.{_≡_, _∙_}
+-- `valuation::rank_breaks` meets its contract. The invariant of its loop: the cells before t are the ranks of the breaks. Assumes nothing.
+use mathlib.Core.Path.{_∙_}
 use mathlib.Core.List.{List}
 use Prim.Native.Nat.{ℕ, _-_, _≤_}
 use native.Mathlib.Omega.{arith}
 use denote.Ref.{now}
-use lib.ListN.{length, getD, replicate, length-replicate}
+use lib.ListN.{length, getD}
 use Rattle.kleene.specs.Truth.{valueOf, not3, and3}
 use Rattle.kleene.specs.Rank.{rankOf}
 use Rattle.rows.specs.Over.{Over}
 use Rattle.rows.specs.Laws.{untouched, one-more}
 use Rattle.valuation.proofs.Shown.{broken-at}
-use Rattle.valuation.proofs.break_ranks.Statement.{statement}
-use Rattle.valuation.proofs.break_ranks.Tie as tie
-use Rattle.valuation.proofs.break_ranks.Reads as reads
-use Rattle.valuation.proofs.break_ranks.Lts as lts
+use Rattle.valuation.proofs.rank_breaks.Statement.{statement}
+use Rattle.valuation.proofs.rank_breaks.Tie as tie
+use Rattle.valuation.proofs.rank_breaks.Reads as reads
+use Rattle.valuation.proofs.rank_breaks.Lts as lts
 use Rattle.kleene.proofs.apart.Reads as apart-reads
 
 abbrev of : List ℕ → List ℕ → ℕ → ℕ
 of points left s = rankOf (and3 (valueOf (getD points s 0)) (not3 (valueOf (getD left s 0))))
 
 abbrev Inv-loop : tie.InvT-loop
-Inv-loop points left ranks₀ t₀ ranks t = (t ≤ length points) × Over (of points left) 0 t (replicate 1024 0) ranks
+Inv-loop points left ranks₀ t₀ ranks t = (t ≤ length points) × Over (of points left) 0 t ranks₀ ranks
 
 abbrev μ-loop : tie.MeasureT-loop
 μ-loop points left ranks₀ t₀ ranks t = length points - t
@@ -28,7 +28,7 @@ abbrev μ-loop : tie.MeasureT-loop
 loop-holds : tie.Need-loop-holds Inv-loop μ-loop
 loop-holds c =
     let x = c .before .before .args in
-    (omega arith, untouched (of (now (x .points)) (now (x .left))) 0 (replicate 1024 0))
+    (omega arith, untouched (of (now (x .points)) (now (x .left))) 0 (now (x .ranks)))
 
 shared-slice-read-apart : tie.Need-shared-slice-read-apart Inv-loop μ-loop
 shared-slice-read-apart c = omega arith
@@ -39,8 +39,10 @@ shared-slice-read-apart-2 c = omega arith
 apart-requires : tie.Need-apart-requires Inv-loop μ-loop
 apart-requires c κs = omega arith
 
-array-write-ranks : tie.Need-array-write-ranks Inv-loop μ-loop
-array-write-ranks c = omega arith
+element-write-ranks : tie.Need-element-write-ranks Inv-loop μ-loop
+element-write-ranks c =
+    let l = c .before .before .before .before in
+    omega (arith, l .loop .inv .1 .long)
 
 add-t : tie.Need-add-t Inv-loop μ-loop
 add-t c = omega arith
@@ -53,17 +55,18 @@ loop-again c =
     let l = c .before .before .before .before in
     let x = l .before .before .before .args in
     let old = l .loop .inv .1 in
-    (omega arith, one-more (of (now (x .points)) (now (x .left))) 0 (l .loop .t) (replicate 1024 0) (l .loop .ranks) (c .apart .result) old (omega arith) (omega (arith, old .long, length-replicate {A = ℕ} 1024 0)) (c .apart .ensures))
+    (omega arith, one-more (of (now (x .points)) (now (x .left))) 0 (l .loop .t) (now (x .ranks)) (l .loop .ranks) (c .apart .result) old (omega arith) (omega (arith, old .long)) (c .apart .ensures))
 
 returns : tie.Need-returns Inv-loop μ-loop
 returns c =
     let l = c .before in
-    let x = l .before .before .before .args in
+    let s = l .before .before .before in
+    let x = s .args in
     let all = l .loop .inv .1 in
-    (all .long ∙ length-replicate {A = ℕ} 1024 0, λ e f P Q t h. all .inside t (omega arith) (omega arith) ∙ broken-at (now (x .points)) (now (x .left)) e f P Q t)
+    (all .long ∙ s .pre .2, λ e f P Q t h. all .inside t (omega arith) (omega arith) ∙ broken-at (now (x .points)) (now (x .left)) e f P Q t)
 
-pub break-ranks-spec : {M : Type 1} → statement M
-break-ranks-spec =
+pub rank-breaks-spec : {M : Type 1} → statement M
+rank-breaks-spec =
     tie.close
     (tie.spec
     Inv-loop
@@ -72,7 +75,7 @@ break-ranks-spec =
     shared-slice-read-apart
     shared-slice-read-apart-2
     apart-requires
-    array-write-ranks
+    element-write-ranks
     add-t
     loop-less
     loop-again

@@ -1,26 +1,26 @@
--- `valuation::begin_ranks` meets its contract. The invariant of its loop: the cells before t are the ranks of the begins. Assumes nothing.
-use mathlib.Core.Path.{_≡_, _∙_}
+-- `valuation::rank_begins` meets its contract. The invariant of its loop: the cells before t are the ranks of the begins. Assumes nothing.
+use mathlib.Core.Path.{_∙_}
 use mathlib.Core.List.{List}
 use Prim.Native.Nat.{ℕ, _-_, _≤_}
 use native.Mathlib.Omega.{arith}
 use denote.Ref.{now}
-use lib.ListN.{length, getD, replicate, length-replicate}
+use lib.ListN.{length, getD}
 use Rattle.kleene.specs.Truth.{valueOf, and3}
 use Rattle.kleene.specs.Rank.{rankOf}
 use Rattle.rows.specs.Over.{Over}
 use Rattle.rows.specs.Laws.{untouched, one-more}
 use Rattle.valuation.proofs.Shown.{begun-at}
-use Rattle.valuation.proofs.begin_ranks.Statement.{statement}
-use Rattle.valuation.proofs.begin_ranks.Tie as tie
-use Rattle.valuation.proofs.begin_ranks.Reads as reads
-use Rattle.valuation.proofs.begin_ranks.Lts as lts
+use Rattle.valuation.proofs.rank_begins.Statement.{statement}
+use Rattle.valuation.proofs.rank_begins.Tie as tie
+use Rattle.valuation.proofs.rank_begins.Reads as reads
+use Rattle.valuation.proofs.rank_begins.Lts as lts
 use Rattle.kleene.proofs.both.Reads as both-reads
 
 abbrev of : List ℕ → List ℕ → ℕ → ℕ
 of points right s = rankOf (and3 (valueOf (getD points s 0)) (valueOf (getD right s 0)))
 
 abbrev Inv-loop : tie.InvT-loop
-Inv-loop points right ranks₀ t₀ ranks t = (t ≤ length points) × Over (of points right) 0 t (replicate 1024 0) ranks
+Inv-loop points right ranks₀ t₀ ranks t = (t ≤ length points) × Over (of points right) 0 t ranks₀ ranks
 
 abbrev μ-loop : tie.MeasureT-loop
 μ-loop points right ranks₀ t₀ ranks t = length points - t
@@ -28,7 +28,7 @@ abbrev μ-loop : tie.MeasureT-loop
 loop-holds : tie.Need-loop-holds Inv-loop μ-loop
 loop-holds c =
     let x = c .before .before .args in
-    (omega arith, untouched (of (now (x .points)) (now (x .right))) 0 (replicate 1024 0))
+    (omega arith, untouched (of (now (x .points)) (now (x .right))) 0 (now (x .ranks)))
 
 shared-slice-read-both : tie.Need-shared-slice-read-both Inv-loop μ-loop
 shared-slice-read-both c = omega arith
@@ -39,8 +39,10 @@ shared-slice-read-both-2 c = omega arith
 both-requires : tie.Need-both-requires Inv-loop μ-loop
 both-requires c κs = omega arith
 
-array-write-ranks : tie.Need-array-write-ranks Inv-loop μ-loop
-array-write-ranks c = omega arith
+element-write-ranks : tie.Need-element-write-ranks Inv-loop μ-loop
+element-write-ranks c =
+    let l = c .before .before .before .before in
+    omega (arith, l .loop .inv .1 .long)
 
 add-t : tie.Need-add-t Inv-loop μ-loop
 add-t c = omega arith
@@ -53,17 +55,18 @@ loop-again c =
     let l = c .before .before .before .before in
     let x = l .before .before .before .args in
     let old = l .loop .inv .1 in
-    (omega arith, one-more (of (now (x .points)) (now (x .right))) 0 (l .loop .t) (replicate 1024 0) (l .loop .ranks) (c .both .result) old (omega arith) (omega (arith, old .long, length-replicate {A = ℕ} 1024 0)) (c .both .ensures))
+    (omega arith, one-more (of (now (x .points)) (now (x .right))) 0 (l .loop .t) (now (x .ranks)) (l .loop .ranks) (c .both .result) old (omega arith) (omega (arith, old .long)) (c .both .ensures))
 
 returns : tie.Need-returns Inv-loop μ-loop
 returns c =
     let l = c .before in
-    let x = l .before .before .before .args in
+    let s = l .before .before .before in
+    let x = s .args in
     let all = l .loop .inv .1 in
-    (all .long ∙ length-replicate {A = ℕ} 1024 0, λ e f P Q t h. all .inside t (omega arith) (omega arith) ∙ begun-at (now (x .points)) (now (x .right)) e f P Q t)
+    (all .long ∙ s .pre .2, λ e f P Q t h. all .inside t (omega arith) (omega arith) ∙ begun-at (now (x .points)) (now (x .right)) e f P Q t)
 
-pub begin-ranks-spec : {M : Type 1} → statement M
-begin-ranks-spec =
+pub rank-begins-spec : {M : Type 1} → statement M
+rank-begins-spec =
     tie.close
     (tie.spec
     Inv-loop
@@ -72,7 +75,7 @@ begin-ranks-spec =
     shared-slice-read-both
     shared-slice-read-both-2
     both-requires
-    array-write-ranks
+    element-write-ranks
     add-t
     loop-less
     loop-again
