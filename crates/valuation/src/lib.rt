@@ -129,7 +129,7 @@ fn since_value(start: usize, begins: Nearest, breaks: Nearest) -> u8
 
 // The row of `left since right`: going up, the last begins up to t - lower and the last breaks up to t decide the value at t. A cell of the
 // row has its minute's break before it has the value.
-fn since_row(
+pub fn since_row(
     points: &[u8],
     left: &[u8],
     right: &[u8],
@@ -194,7 +194,7 @@ const FAR: usize = 4096;
 
 // The row of `left until right`: going down, the first begins from t + lower on and the first breaks from t on decide the value at t. From
 // the end on everything is unknown, so that there a begin and a break may be, and none is sure.
-fn until_row(
+pub fn until_row(
     points: &[u8],
     left: &[u8],
     right: &[u8],
@@ -225,7 +225,7 @@ fn until_row(
 
 // ---- the other rows
 
-fn true_row(minutes: usize, row: &mut [u8; 1024])
+pub fn true_row(minutes: usize, row: &mut [u8; 1024])
     requires { ⌜ (minutes ≤ 1024) × (length (now row) ≡ 1024) ⌝ }
     ensures { λ _. ⌜ (length (now (row .exit)) ≡ 1024) × Row minutes (λ t. true3) (now (row .exit)) ⌝ }
 {
@@ -251,7 +251,7 @@ fn fact_code(known: u32, values: u32, proposition: u8) -> u8
     1
 }
 
-fn proposition_row(facts: &[u32], proposition: u8, minutes: usize, row: &mut [u8; 1024])
+pub fn proposition_row(facts: &[u32], proposition: u8, minutes: usize, row: &mut [u8; 1024])
     requires { ⌜ (minutes ≤ 1024) × (length (now facts) ≡ 2 * minutes) × (proposition < 32) × (length (now row) ≡ 1024) ⌝ }
     ensures { λ _. ⌜ (length (now (row .exit)) ≡ 1024) × ((k : Knowledge) → k .facts ≡ now (facts .entry) → Row minutes (fact k proposition) (now (row .exit))) ⌝ }
 {
@@ -263,7 +263,7 @@ fn proposition_row(facts: &[u32], proposition: u8, minutes: usize, row: &mut [u8
     }
 }
 
-fn not_row(operand: &[u8], row: &mut [u8; 1024])
+pub fn not_row(operand: &[u8], row: &mut [u8; 1024])
     requires { ⌜ (length (now operand) ≤ 1024) × (length (now row) ≡ 1024) ⌝ }
     ensures { λ _. ⌜ (length (now (row .exit)) ≡ 1024) × ((f : ℕ → Truth) → Shows (now (operand .entry)) f → Row (length (now (operand .entry))) (λ t. not3 (f t)) (now (row .exit))) ⌝ }
 {
@@ -274,7 +274,7 @@ fn not_row(operand: &[u8], row: &mut [u8; 1024])
     }
 }
 
-fn or_row(left: &[u8], right: &[u8], row: &mut [u8; 1024])
+pub fn or_row(left: &[u8], right: &[u8], row: &mut [u8; 1024])
     requires { ⌜ (length (now left) ≤ 1024) × (length (now right) ≡ length (now left)) × (length (now row) ≡ 1024) ⌝ }
     ensures { λ _. ⌜ (length (now (row .exit)) ≡ 1024) × ((f g : ℕ → Truth) → Shows (now (left .entry)) f → Shows (now (right .entry)) g → Row (length (now (left .entry))) (λ t. or3 (f t) (g t)) (now (row .exit))) ⌝ }
 {

@@ -266,24 +266,48 @@ fn worked(line: Line, points: &[u8], facts: &[u32], sheet: &[u8]) -> [u8; 1024]
 {
     let m = points.len();
     let kind = line.kind;
+    let mut ranks = [0u8; 1024];
+    let mut row = [0u8; 1024];
     if kind == 0 {
-        return valuation::true_row();
+        valuation::true_row(m, &mut row);
+        return row;
     }
     if kind == 1 {
-        return valuation::proposition_row(facts, line.first as u8, m);
+        valuation::proposition_row(facts, line.first as u8, m, &mut row);
+        return row;
     }
     let first = run(sheet, line.first, m);
     if kind == 2 {
-        return valuation::not_row(first);
+        valuation::not_row(first, &mut row);
+        return row;
     }
     let second = run(sheet, line.second, m);
     if kind == 3 {
-        return valuation::or_row(first, second);
+        valuation::or_row(first, second, &mut row);
+        return row;
     }
     if kind == 4 {
-        return valuation::since_row(points, first, second, line.lower, line.upper);
+        valuation::since_row(
+            points,
+            first,
+            second,
+            line.lower,
+            line.upper,
+            &mut ranks,
+            &mut row,
+        );
+        return row;
     }
-    valuation::until_row(points, first, second, line.lower, line.upper)
+    valuation::until_row(
+        points,
+        first,
+        second,
+        line.lower,
+        line.upper,
+        &mut ranks,
+        &mut row,
+    );
+    row
 }
 
 fn defined_at(line: Line, points: &[u8], facts: &[u32], first: &[u8], second: &[u8], t: usize) -> u8
