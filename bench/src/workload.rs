@@ -21,11 +21,14 @@ pub struct Shape {
     pub subformulas: usize,
 }
 
+/// The highest bound of a short interval.
+const SHORT: usize = 24;
+
 pub const LARGEST: Shape = Shape { propositions: 32, components: 16, minutes: 1024, subformulas: 64 };
 
-/// The dearest policy of a shape: a proposition, and then since and until by turns over random earlier lines and intervals. The
-/// last lines are rules.
-fn dearest_policy(random: &mut Random, shape: &Shape) -> Policy {
+/// A policy of a shape: propositions in an eighth of its lines, and since and until by turns in the others, over random earlier lines. Half
+/// of the intervals are short, so that rows vary; the others reach up to the highest bound. The last lines are rules.
+fn policy(random: &mut Random, shape: &Shape) -> Policy {
     let first_rule = shape.subformulas - shape.subformulas.min(MOST_RULES);
     let subformulas = (0..shape.subformulas)
         .map(|line| Subformula { formula: formula(random, line, shape), rule: line >= first_rule })
@@ -34,11 +37,12 @@ fn dearest_policy(random: &mut Random, shape: &Shape) -> Policy {
 }
 
 fn formula(random: &mut Random, line: usize, shape: &Shape) -> Formula {
-    if line == 0 {
+    if line % 8 == 0 {
         return Formula::Proposition(random.below(shape.propositions));
     }
-    let lower = random.below(HIGHEST_BOUND / 2);
-    let upper = random.between(lower, HIGHEST_BOUND);
+    let highest = if random.once_in(2) { SHORT } else { HIGHEST_BOUND };
+    let lower = random.below(highest / 2);
+    let upper = random.between(lower, highest);
     let parts = Temporal { first: random.below(line), second: random.below(line), lower, upper };
     if line % 2 == 0 {
         Formula::Since(parts)
@@ -74,7 +78,7 @@ fn known_message(policy: &Policy, buffers: &Buffers) -> Message {
 impl Workload {
     pub fn new(shape: &Shape) -> Workload {
         let mut random = Random::new(2_026);
-        let policy = dearest_policy(&mut random, shape);
+        let policy = policy(&mut random, shape);
         let buffers = full_record(&mut random, &policy);
         let message = encode_message(&known_message(&policy, &buffers));
         Workload { encoded: encode_policy(&policy), policy, message, buffers }

@@ -67,13 +67,18 @@ fn is_steady(run: &[u16]) -> bool
         return false;
     }
     let mut p: usize = 0;
-    let mut q = next_known(run, 1);
+    let mut v: u16 = 0;
+    let mut q: usize = 1;
     while q < run.len() {
-        if !follows(run[p], run[q], q - p) {
-            return false;
+        let w = run[q];
+        if w < NONE {
+            if !follows(v, w, q - p) {
+                return false;
+            }
+            p = q;
+            v = w;
         }
-        p = q;
-        q = next_known(run, q + 1);
+        q += 1;
     }
     true
 }
@@ -121,9 +126,21 @@ fn join(row: &mut [u8; 1024], lo: usize, hi: usize, code: u8)
 {
     let mut i = lo;
     while i < hi {
-        row[i] = kleene::or(row[i], code);
+        row[i] = kleene::either(row[i], code);
         i += 1;
     }
+}
+
+// Joins the cells of a gap. Most gaps of a full record are one minute long and need no loop.
+fn join_gap(row: &mut [u8; 1024], lo: usize, hi: usize, code: u8)
+    requires { ⌜ (lo ≤ hi) × (hi ≤ 1024) × (length (now row) ≡ 1024) ⌝ }
+    ensures { λ _. ⌜ Over (λ i. codeOf (or3 (valueOf (getD (now (row .entry)) i 0)) (valueOf code))) lo hi (now (row .entry)) (now (row .exit)) ⌝ }
+{
+    if hi == lo + 1 {
+        row[lo] = kleene::either(row[lo], code);
+        return;
+    }
+    join(row, lo, hi, code);
 }
 
 // Joins a row with what the run tells of each minute, gap by gap.
@@ -134,7 +151,7 @@ fn join_run(row: &mut [u8; 1024], run: &[u16])
     let mut p: usize = 0;
     let mut q = next_known(run, 1);
     while q < run.len() {
-        join(row, p, q, gap_code(run[p], run[q], q - p));
+        join_gap(row, p, q, gap_code(run[p], run[q], q - p));
         p = q;
         q = next_known(run, q + 1);
     }

@@ -50,8 +50,8 @@ sub-gap-code c = omega arith
 gap-code-requires : tie.Need-gap-code-requires Inv-loop μ-loop
 gap-code-requires c κs = tt
 
-join-requires : tie.Need-join-requires Inv-loop μ-loop
-join-requires c κs = (omega arith, omega arith, c .before .before .before .before .before .loop .inv .2)
+join-gap-requires : tie.Need-join-gap-requires Inv-loop μ-loop
+join-gap-requires c κs = (omega arith, omega arith, c .before .before .before .before .before .loop .inv .2)
 
 add-next-known : tie.Need-add-next-known Inv-loop μ-loop
 add-next-known c = omega arith
@@ -69,7 +69,7 @@ loop-again c =
     let f = cell (now (s .args .run)) in
     let v = l .loop .inv in
     let g = c .before .before .gap-code in
-    let over = c .before .join .ensures in
+    let over = c .before .join-gap .ensures in
     let there : l .loop .q < length (now (s .args .run)) = omega arith in (
       v .1 .there there,
       c .next-known2 .ensures,
@@ -84,8 +84,8 @@ loop-again c =
 sub-join : tie.Need-sub-join Inv-loop μ-loop
 sub-join c = omega arith
 
-join-requires-2 : tie.Need-join-requires-2 Inv-loop μ-loop
-join-requires-2 c κs = (omega arith, omega arith, c .before .before .loop .inv .2)
+join-requires : tie.Need-join-requires Inv-loop μ-loop
+join-requires c κs = (omega arith, omega arith, c .before .before .loop .inv .2)
 
 returns : tie.Need-returns Inv-loop μ-loop
 returns c m e =
@@ -95,8 +95,8 @@ returns c m e =
     let v = l .loop .inv in
     let within = v .1 .within in
     let last : length (now (s .args .run)) - 1 ≡ m = omega arith in
-    subst (λ (n : ℕ). Over (joined f m (now (s .args .row))) 0 n (now (s .args .row)) (c .join2 .last .0)) last
-    (stretch f m (l .loop .p) (length (now (s .args .run)) - 1) (now (s .args .row)) (l .loop .row) _ 0 (v .3 m e) (c .join2 .ensures) (omega arith)
+    subst (λ (n : ℕ). Over (joined f m (now (s .args .row))) 0 n (now (s .args .row)) (c .join .last .0)) last
+    (stretch f m (l .loop .p) (length (now (s .args .run)) - 1) (now (s .args .row)) (l .loop .row) _ 0 (v .3 m e) (c .join .ensures) (omega arith)
     (λ t from to. sym (after-last f m (l .loop .p) (l .loop .q) t (rw e (s .pre .2)) (v .0) (rw e (v .1)) from (omega arith) (omega arith))))
 
 pub join-run-spec : {M : Type 1} → statement M
@@ -113,11 +113,11 @@ join-run-spec =
     shared-slice-read-gap-code-2
     sub-gap-code
     gap-code-requires
-    join-requires
+    join-gap-requires
     add-next-known
     next-known-requires-2
     loop-less
     loop-again
     sub-join
-    join-requires-2
+    join-requires
     returns)

@@ -1,0 +1,55 @@
+-- `knowledge::join_gap` meets its contract: a gap of one cell is joined at once, and any other by `join`. Assumes nothing.
+use mathlib.Core.Path.{_≡_, sym, subst}
+use Prim.Native.Nat.{ℕ, _+_}
+use native.Mathlib.Omega.{arith}
+use denote.Ref.{now}
+use lib.ListN.{getD, set}
+use Rattle.kleene.specs.Truth.{codeOf, valueOf, or3}
+use Rattle.rows.specs.Over.{Over}
+use Rattle.rows.specs.Laws.{untouched, one-more}
+use borrow.Author.Needs.{needs}
+use Rattle.knowledge.proofs.join_gap.Statement.{statement}
+use Rattle.knowledge.proofs.join_gap.Tie as tie
+use Rattle.knowledge.proofs.join_gap.Reads as reads
+use Rattle.knowledge.proofs.join_gap.Lts as lts
+use Rattle.kleene.proofs.either.Reads as either-reads
+use Rattle.knowledge.proofs.join.Reads as join-reads
+
+add-if1 : tie.Need-add-if1
+add-if1 c = search needs
+
+element-copy-out-either : tie.Need-element-copy-out-either
+element-copy-out-either c = search needs
+
+either-requires : tie.Need-either-requires
+either-requires c κs = search needs
+
+element-write-row : tie.Need-element-write-row
+element-write-row c = search needs
+
+returns : tie.Need-returns
+returns c =
+    let s = c .before .before .before in
+    let x = s .args in
+    let old = now (x .row) in
+    let one : x .hi ≡ x .lo + 1 = c .before .before .if1 .taken in
+    subst (λ (n : ℕ). Over (λ i. codeOf (or3 (valueOf (getD old i 0)) (valueOf (x .code)))) (x .lo) n old (set old (x .lo) (c .either .result))) (sym one)
+    (one-more _ (x .lo) (x .lo) old old (c .either .result) (untouched _ (x .lo) old) (omega arith) (omega (arith, one)) (c .either .ensures))
+
+join-requires : tie.Need-join-requires
+join-requires c κs = search needs
+
+returns-2 : tie.Need-returns-2
+returns-2 c = search needs
+
+pub join-gap-spec : {M : Type 1} → statement M
+join-gap-spec =
+    tie.close
+    (tie.spec
+    add-if1
+    element-copy-out-either
+    either-requires
+    element-write-row
+    returns
+    join-requires
+    returns-2)
