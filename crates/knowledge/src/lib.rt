@@ -136,7 +136,7 @@ fn join_gap(row: &mut [u8; 1024], lo: usize, hi: usize, code: u8)
     requires { ⌜ (lo ≤ hi) × (hi ≤ 1024) × (length (now row) ≡ 1024) ⌝ }
     ensures { λ _. ⌜ Over (λ i. codeOf (or3 (valueOf (getD (now (row .entry)) i 0)) (valueOf code))) lo hi (now (row .entry)) (now (row .exit)) ⌝ }
 {
-    if hi == lo + 1 {
+    if hi - lo == 1 {
         row[lo] = kleene::either(row[lo], code);
         return;
     }

@@ -15,8 +15,8 @@ use Rattle.knowledge.proofs.join_gap.Lts as lts
 use Rattle.kleene.proofs.either.Reads as either-reads
 use Rattle.knowledge.proofs.join.Reads as join-reads
 
-add-if1 : tie.Need-add-if1
-add-if1 c = search needs
+sub-if1 : tie.Need-sub-if1
+sub-if1 c = search needs
 
 element-copy-out-either : tie.Need-element-copy-out-either
 element-copy-out-either c = search needs
@@ -32,7 +32,7 @@ returns c =
     let s = c .before .before .before in
     let x = s .args in
     let old = now (x .row) in
-    let one : x .hi ≡ x .lo + 1 = c .before .before .if1 .taken in
+    let one : x .hi ≡ x .lo + 1 = omega (arith, c .before .before .if1 .taken) in
     subst (λ (n : ℕ). Over (λ i. codeOf (or3 (valueOf (getD old i 0)) (valueOf (x .code)))) (x .lo) n old (set old (x .lo) (c .either .result))) (sym one)
     (one-more _ (x .lo) (x .lo) old old (c .either .result) (untouched _ (x .lo) old) (omega arith) (omega (arith, one)) (c .either .ensures))
 
@@ -46,7 +46,7 @@ pub join-gap-spec : {M : Type 1} → statement M
 join-gap-spec =
     tie.close
     (tie.spec
-    add-if1
+    sub-if1
     element-copy-out-either
     either-requires
     element-write-row
