@@ -28,12 +28,15 @@ fn takes(name: &str, count: usize) {
 }
 
 fn report() {
-    let Shape { propositions, components, minutes, subformulas } = LARGEST;
+    let Shape { propositions, components, minutes, subformulas, .. } = LARGEST;
     println!("A take: {propositions} propositions, {components} components, {minutes} minutes, {subformulas} subformulas, full record\n");
     compare();
     count();
     grow("minutes", &[64, 128, 256, 512, 1024], |minutes| Shape { minutes, ..LARGEST });
-    grow("subformulas", &[1, 2, 4, 8, 16, 32, 64], |subformulas| Shape { components: 1, subformulas, ..LARGEST });
+    grow("subformulas", &[1, 2, 4, 8, 16, 32, 64], |subformulas| {
+        // one rule, and one proposition: each further line is a since or an until
+        Shape { components: 1, subformulas, rules: 1, spacing: 64, ..LARGEST }
+    });
 }
 
 /// The monitor beside the others.

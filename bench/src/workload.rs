@@ -2,7 +2,7 @@
 
 use oracle::generate::{encode_message, encode_policy, Random};
 use oracle::message::{Event, Message};
-use oracle::policy::{Formula, Policy, Subformula, Temporal, HIGHEST_BOUND, MOST_RULES};
+use oracle::policy::{Formula, Policy, Subformula, Temporal, HIGHEST_BOUND};
 use oracle::Buffers;
 
 /// A take: the policy's and message's bytes, and the lent buffers.
@@ -19,17 +19,22 @@ pub struct Shape {
     pub components: usize,
     pub minutes: usize,
     pub subformulas: usize,
+    /// The most rules; they are the last lines.
+    pub rules: usize,
+    /// A proposition stands in one of so many lines.
+    pub spacing: usize,
 }
 
 /// The highest bound of a short interval.
 const SHORT: usize = 24;
 
-pub const LARGEST: Shape = Shape { propositions: 32, components: 16, minutes: 1024, subformulas: 64 };
+pub const LARGEST: Shape =
+    Shape { propositions: 32, components: 16, minutes: 1024, subformulas: 64, rules: 8, spacing: 8 };
 
-/// A policy of a shape: propositions in an eighth of its lines, and since and until by turns in the others, over random earlier lines. Half
-/// of the intervals are short, so that rows vary; the others reach up to the highest bound. The last lines are rules.
+/// A policy of a shape: some propositions, and since and until by turns in the other lines, over random earlier ones. Half of the intervals
+/// are short, so that rows vary; the others reach up to the highest bound.
 fn policy(random: &mut Random, shape: &Shape) -> Policy {
-    let first_rule = shape.subformulas - shape.subformulas.min(MOST_RULES);
+    let first_rule = shape.subformulas - shape.subformulas.min(shape.rules);
     let subformulas = (0..shape.subformulas)
         .map(|line| Subformula { formula: formula(random, line, shape), rule: line >= first_rule })
         .collect();
@@ -37,7 +42,7 @@ fn policy(random: &mut Random, shape: &Shape) -> Policy {
 }
 
 fn formula(random: &mut Random, line: usize, shape: &Shape) -> Formula {
-    if line % 8 == 0 {
+    if line % shape.spacing == 0 {
         return Formula::Proposition(random.below(shape.propositions));
     }
     let highest = if random.once_in(2) { SHORT } else { HIGHEST_BOUND };
