@@ -98,11 +98,12 @@ fn since_begin(ranks: &[u8; 1024], lower: usize, t: usize, begins: Nearest) -> N
     note(begins, j + 1, ranks[j])
 }
 
-// t - upper, and 0 where it would lie before minute 0.
-fn minus(t: usize, upper: usize) -> usize
-    ensures { λ r. ⌜ r ≡ t - upper ⌝ }
+// Where the interval starts at minute t + 1, from where it starts at minute t: not before minute 0.
+fn next_start(start: usize, t: usize, upper: usize) -> usize
+    requires { ⌜ (start ≡ t - upper) × (t ≤ 1024) ⌝ }
+    ensures { λ r. ⌜ r ≡ t + 1 - upper ⌝ }
 {
-    if t < upper { 0 } else { t - upper }
+    if t < upper { start } else { start + 1 }
 }
 
 // Does the since reach a threshold: is the last begin that does in the interval, which starts here, with no break after it?
@@ -145,11 +146,13 @@ pub fn since_row(
     rank_breaks(points, left, row);
     let mut begins = Nearest { sure: 0, may: 0 };
     let mut breaks = Nearest { sure: 0, may: 0 };
+    let mut start: usize = 0;
     let mut t: usize = 0;
     while t < points.len() {
         begins = since_begin(ranks, lower, t, begins);
         breaks = note(breaks, t + 1, row[t]);
-        row[t] = since_value(minus(t, upper), begins, breaks);
+        row[t] = since_value(start, begins, breaks);
+        start = next_start(start, t, upper);
         t += 1;
     }
 }

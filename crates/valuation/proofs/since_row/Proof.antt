@@ -1,7 +1,7 @@
 -- `valuation::since_row` meets its contract. The invariant of its loop: the cells before t are the since's, the breaks before t and the begins
 -- before t - lower are noted. The measure is what is left of the minutes. Assumes nothing.
 use mathlib.Core.Path.{_≡_, subst, _∙_}
-use Prim.Native.Nat.{ℕ, _-_, _≤_}
+use Prim.Native.Nat.{ℕ, _-_, _≤_, _<_}
 use native.Mathlib.Omega.{arith}
 use denote.Ref.{now}
 use lib.ListN.{length, length-set}
@@ -20,20 +20,20 @@ use Rattle.valuation.proofs.since_row.Reads as reads
 use Rattle.valuation.proofs.since_row.Lts as lts
 use Rattle.valuation.proofs.rank_begins.Reads as rank-begins-reads
 use Rattle.valuation.proofs.rank_breaks.Reads as rank-breaks-reads
-use Rattle.valuation.proofs.minus.Reads as minus-reads
+use Rattle.valuation.proofs.next_start.Reads as next-start-reads
 use Rattle.valuation.proofs.note.Reads as note-reads
 use Rattle.valuation.proofs.since_begin.Reads as since-begin-reads
 use Rattle.valuation.proofs.since_value.Reads as since-value-reads
 
 abbrev Inv-loop : tie.InvT-loop
-Inv-loop points left right lower upper ranks row₀ begins₀ breaks₀ t₀ row begins breaks t =
-    (t ≤ length points) × (length row ≡ 1024)
+Inv-loop points left right lower upper ranks row₀ begins₀ breaks₀ start₀ t₀ row begins breaks start t =
+    (t ≤ length points) × (length row ≡ 1024) × (start ≡ t - upper)
     × ((w : World Truth) (α β : ℕ → Truth) → Shows points (point three w) → Shows left α → Shows right β
     → Lasts (begun (point three w) β) (t - lower) begins × Lasts (broken (point three w) α) t breaks
     × Over (λ s. codeOf (since three w α β lower upper s)) 0 t row₀ row)
 
 abbrev μ-loop : tie.MeasureT-loop
-μ-loop points left right lower upper ranks row₀ begins₀ breaks₀ t₀ row begins breaks t = length points - t
+μ-loop points left right lower upper ranks row₀ begins₀ breaks₀ start₀ t₀ row begins breaks start t = length points - t
 
 rank-begins-requires : tie.Need-rank-begins-requires Inv-loop μ-loop
 rank-begins-requires c κs = (omega arith, omega arith, omega arith)
@@ -46,6 +46,7 @@ loop-holds c =
     let x = c .before .before .before .before .before .before .before .args in (
       omega arith,
       c .rank-breaks .ensures .0,
+      omega arith,
       λ w α β P Q R.
           (no-last (begun (point three w) β) (0 - x .lower) (omega arith), no-last (broken (point three w) α) 0 (omega arith), untouched (λ s. codeOf (since three w α β (x .lower) (x .upper) s)) 0 _),
     )
@@ -62,14 +63,14 @@ element-copy-out-note c = omega arith
 note-requires : tie.Need-note-requires Inv-loop μ-loop
 note-requires c κs = omega arith
 
-minus-requires : tie.Need-minus-requires Inv-loop μ-loop
-minus-requires c κs = omega arith
-
 since-value-requires : tie.Need-since-value-requires Inv-loop μ-loop
 since-value-requires c κs = omega arith
 
 element-write-row : tie.Need-element-write-row Inv-loop μ-loop
 element-write-row c = omega arith
+
+next-start-requires : tie.Need-next-start-requires Inv-loop μ-loop
+next-start-requires c κs = (c .before .before .before .before .before .before .loop .inv .2, omega arith)
 
 add-t : tie.Need-add-t Inv-loop μ-loop
 add-t c = omega arith
@@ -80,19 +81,22 @@ loop-less c = omega arith
 loop-again : tie.Need-loop-again Inv-loop μ-loop
 loop-again c =
     let l = c .before .before .before .before .before .before .before in
-    let x = l .before .before .before .before .before .before .before .before .args in
+    let s = l .before .before .before .before .before .before .before .before in
+    let x = s .args in
     let m = length (now (x .points)) in
-    let t = l .loop .t in (
-      omega arith,
-      length-set (l .loop .row) t (c .since-value .result) ∙ l .loop .inv .1,
+    let t = l .loop .t in
+    let on : t < m = c .before .before .before .before .before .before .loop-test .taken in (
+      omega (arith, on),
+      length-set (l .loop .row) t (c .before .since-value .result) ∙ l .loop .inv .1,
+      c .next-start .ensures,
       λ w α β P Q R.
-          let old = l .loop .inv .2 w α β P Q R in
-          let begins = c .before .before .before .before .since-begin .ensures m (begun (point three w) β) (omega arith) (l .before .before .before .rank-begins .ensures .1 (point three w) β P R) (old .0) in
-          let break = old .2 .above t (omega arith) ∙ l .before .rank-breaks .ensures .1 (point three w) α P Q t (omega arith) in
+          let old = l .loop .inv .3 w α β P Q R in
+          let begins = c .before .before .before .before .since-begin .ensures m (begun (point three w) β) (omega (arith, on)) (l .before .before .before .rank-begins .ensures .1 (point three w) β P R) (old .0) in
+          let break = old .2 .above t (omega (arith, on)) ∙ l .before .rank-breaks .ensures .1 (point three w) α P Q t (omega (arith, on)) in
           let ends = lasts-step t _ (l .loop .breaks) (c .before .before .note .result) (broken (point three w) α) break (c .before .before .note .ensures) (old .1) in (
             begins,
             ends,
-            one-more (λ s. codeOf (since three w α β (x .lower) (x .upper) s)) 0 t _ (l .loop .row) (c .since-value .result) (old .2) (omega arith) (omega arith) (c .since-value .ensures w α β (x .lower) (x .upper) t (c .before .minus .ensures) begins ends),
+            one-more (λ s. codeOf (since three w α β (x .lower) (x .upper) s)) 0 t _ (l .loop .row) (c .before .since-value .result) (old .2) (omega arith) (omega (arith, on, s .pre .0, l .loop .inv .1)) (c .before .since-value .ensures w α β (x .lower) (x .upper) t (l .loop .inv .2) begins ends),
           ),
     )
 
@@ -105,7 +109,7 @@ returns c =
       l .loop .inv .1,
       λ w α β P Q R.
           subst (λ (m : ℕ). Row m (since three w α β (x .lower) (x .upper)) (l .loop .row)) done
-          (filled (l .loop .t) (since three w α β (x .lower) (x .upper)) _ (l .loop .row) (l .loop .inv .2 w α β P Q R .2)),
+          (filled (l .loop .t) (since three w α β (x .lower) (x .upper)) _ (l .loop .row) (l .loop .inv .3 w α β P Q R .2)),
     )
 
 pub since-row-spec : {M : Type 1} → statement M
@@ -121,9 +125,9 @@ since-row-spec =
     add-note
     element-copy-out-note
     note-requires
-    minus-requires
     since-value-requires
     element-write-row
+    next-start-requires
     add-t
     loop-less
     loop-again
