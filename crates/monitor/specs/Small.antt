@@ -1,8 +1,9 @@
 -- 01, "A small shift to check by": the starred cases, jointly, from the bytes of 01 to the verdict sheet and the refusals. They hold whatever the
 -- buffers held before the opening.
 use Prim.Native.Nat.{ℕ}
-use mathlib.Core.Path.{_≡_, sym, ap, _∙_}
+use mathlib.Core.Path.{_≡_, refl, sym, ap, _∙_}
 use mathlib.Core.List.{List, [], _∷_, map}
+use lib.ListN.{length}
 use Rattle.bits.specs.Digits.{digit, below, expanded}
 use Rattle.bits.specs.Bits.{bit}
 use Rattle.refusal.specs.declared.Refusal.the-variants.{BadMessage, Conflict}
@@ -14,7 +15,7 @@ use Rattle.knowledge.specs.Knowledge.{noted, valued, number, is-point, is-none,
 use Rattle.valuation.specs.Sheets.{valuation-of, verdicts-of, standing}
 use Rattle.monitor.specs.declared.Answer.{Answer}
 use Rattle.monitor.specs.declared.Answer.the-variants.{Done, Received, Refused}
-use Rattle.monitor.specs.State.{State, sizes-fit, opened, open-state, receive, Receive, run, after}
+use Rattle.monitor.specs.State.{State, lent, sizes-fit, opened, open-state, receive, Receive, run, after}
 use Rattle.monitor.specs.Proved.{opens}
 
 -- "mark 0 at some time in the last 2 minutes"
@@ -82,6 +83,12 @@ pub record Small-shift (x y : State) : Type 0 where
   -- a false mark at a busy minute 3 gives blank; at minute 2 with minute 3 quiet, broken
   pub until-blank : sheet U y (false-at-3 ∷ []) ≡ row 0 0 0 0
   pub until-broken : sheet U y (false-at-2 ∷ alive-at-4 ∷ []) ≡ row 0 0 2 0
+
+-- what is assumed of x and y below is so for any buffers of the cards' sizes: both openings are done
+pub opens-sized : (n f v d : List ℕ) → length n ≡ 5 → length f ≡ 8 → length v ≡ 12 → length d ≡ 4
+    → (open-state K (lent n f v d) .answer ≡ Done) × (open-state U (lent n f v d) .answer ≡ Done)
+unfolding open-state lineLength fieldsAt allowed operandsGood goodLine meaning formulaOf subformulaOf subformulaAt headingAnswer offset lineAnswer linesAnswer linesUpTo subformulasOf ruleLines rulesUpTo closingAnswer policy-answer policyOf sizes-fit
+opens-sized n f v d a b c e = (rw (a, b, c, e) refl, rw (a, b, c, e) refl)
 
 -- each case, from the opened state on
 module _ (s : List ℕ) (x : State) (e : open-state s x .state ≡ opened (policyOf s)) where
