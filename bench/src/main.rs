@@ -42,22 +42,22 @@ fn report() {
 /// The monitor beside the others.
 fn compare() {
     let times = in_turns(&ALL, &mut Workload::new(&LARGEST), SAMPLES);
-    println!("{:<50} {:>12} {:>12} {:>12}   monitor / it: median (quartiles)", "", "least µs", "median µs", "most µs");
-    for (contender, times_of) in ALL.into_iter().zip(&times) {
-        let spread = Spread::of(times_of.clone());
-        let ratio = ratios(&times[0], times_of);
-        println!(
-            "{:<50} {:>12.1} {:>12.1} {:>12.1}   {:.4} ({:.4} to {:.4})",
-            contender.describe(),
-            spread.least() * MICRO,
-            spread.median() * MICRO,
-            spread.most() * MICRO,
-            ratio.median(),
-            ratio.quantile(0.25),
-            ratio.quantile(0.75),
-        );
+    println!("{:<50} {:>12} {:>12} {:>12}  monitor / it: median (quartiles)", "", "least µs", "median µs", "most µs");
+    for (contender, of_it) in ALL.into_iter().zip(&times) {
+        let spread = Spread::of(of_it.clone());
+        let ratio = ratios(&times[0], of_it);
+        let [least, median, most] = [spread.least(), spread.median(), spread.most()].map(|time| time * MICRO);
+        let [middle, low, high] = [ratio.median(), ratio.quantile(0.25), ratio.quantile(0.75)].map(three_digits);
+        let name = contender.describe();
+        println!("{name:<50} {least:>12.1} {median:>12.1} {most:>12.1}  {middle} ({low} to {high})");
     }
     println!();
+}
+
+/// The number with three digits that count.
+fn three_digits(number: f64) -> String {
+    let places = (2.0 - number.abs().log10().floor()).max(0.0) as usize;
+    format!("{number:.places$}")
 }
 
 /// Instructions of one take.

@@ -42,14 +42,14 @@ fn policy(random: &mut Random, shape: &Shape) -> Policy {
 }
 
 fn formula(random: &mut Random, line: usize, shape: &Shape) -> Formula {
-    if line % shape.spacing == 0 {
+    if line.is_multiple_of(shape.spacing) {
         return Formula::Proposition(random.below(shape.propositions));
     }
     let highest = if random.once_in(2) { SHORT } else { HIGHEST_BOUND };
     let lower = random.below(highest / 2);
     let upper = random.between(lower, highest);
     let parts = Temporal { first: random.below(line), second: random.below(line), lower, upper };
-    if line % 2 == 0 {
+    if line.is_multiple_of(2) {
         Formula::Since(parts)
     } else {
         Formula::Until(parts)
