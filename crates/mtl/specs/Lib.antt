@@ -2,6 +2,7 @@
 pub mod Syntax
 pub mod Algebra
 pub mod Reading
+pub mod Before
 pub mod Folds
 pub mod Related
 pub mod Unroll
