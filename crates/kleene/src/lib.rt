@@ -42,20 +42,7 @@ pub fn implies(x: u8, y: u8) -> u8
     or(not(x), y)
 }
 
-// The same as `or`, by tests and no table, for inner loops: there a table is built anew each time round.
-pub fn either(x: u8, y: u8) -> u8
-    ensures { λ r. ⌜ r ≡ codeOf (or3 (valueOf x) (valueOf y)) ⌝ }
-{
-    if (x == 1) | (y == 1) {
-        return 1;
-    }
-    if (x == 2) & (y == 2) {
-        return 2;
-    }
-    0
-}
-
-// The rank of `x and y`, its place in the order false < unknown < true. By tests, as `either`.
+// The rank of `x and y`, its place in the order false < unknown < true. By tests and no table, for inner loops: there a table is built anew each time round.
 pub fn both(x: u8, y: u8) -> u8
     ensures { λ r. ⌜ r ≡ rankOf (and3 (valueOf x) (valueOf y)) ⌝ }
 {

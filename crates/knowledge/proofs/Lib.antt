@@ -7,3 +7,4 @@ pub mod Words
 pub mod Parts
 pub mod Admits
 pub mod Own
+pub mod Merging

@@ -119,6 +119,19 @@ fn gap_code(v: u16, w: u16, d: usize) -> u8
     0
 }
 
+// What two tell of a minute together: busy if either says busy, quiet if both say quiet, and else open.
+fn merge(x: u8, y: u8) -> u8
+    ensures { λ r. ⌜ r ≡ codeOf (or3 (valueOf x) (valueOf y)) ⌝ }
+{
+    if (x == 1) | (y == 1) {
+        return 1;
+    }
+    if (x == 2) & (y == 2) {
+        return 2;
+    }
+    0
+}
+
 // Joins the cells from lo up to hi with a code.
 fn join(row: &mut [u8; 1024], lo: usize, hi: usize, code: u8)
     requires { ⌜ (lo ≤ hi) × (hi ≤ 1024) × (length (now row) ≡ 1024) ⌝ }
@@ -126,7 +139,7 @@ fn join(row: &mut [u8; 1024], lo: usize, hi: usize, code: u8)
 {
     let mut i = lo;
     while i < hi {
-        row[i] = kleene::either(row[i], code);
+        row[i] = merge(row[i], code);
         i += 1;
     }
 }
@@ -137,7 +150,7 @@ fn join_gap(row: &mut [u8; 1024], lo: usize, hi: usize, code: u8)
     ensures { λ _. ⌜ Over (λ i. codeOf (or3 (valueOf (getD (now (row .entry)) i 0)) (valueOf code))) lo hi (now (row .entry)) (now (row .exit)) ⌝ }
 {
     if hi - lo == 1 {
-        row[lo] = kleene::either(row[lo], code);
+        row[lo] = merge(row[lo], code);
         return;
     }
     join(row, lo, hi, code);

@@ -20,11 +20,11 @@ abbrev μ-loop : tie.MeasureT-loop
 loop-holds : tie.Need-loop-holds Inv-loop μ-loop
 loop-holds c = (omega arith, omega arith, untouched _ (c .args .lo) (now (c .args .row)))
 
-element-copy-out-either : tie.Need-element-copy-out-either Inv-loop μ-loop
-element-copy-out-either c = omega (arith, c .before .loop .inv .2 .long)
+element-copy-out-merge : tie.Need-element-copy-out-merge Inv-loop μ-loop
+element-copy-out-merge c = omega (arith, c .before .loop .inv .2 .long)
 
-either-requires : tie.Need-either-requires Inv-loop μ-loop
-either-requires c κs = tt
+merge-requires : tie.Need-merge-requires Inv-loop μ-loop
+merge-requires c κs = tt
 
 element-write-row : tie.Need-element-write-row Inv-loop μ-loop
 element-write-row c = omega (arith, c .before .before .before .loop .inv .2 .long)
@@ -43,8 +43,8 @@ loop-again c =
     let over = l .loop .inv .2 in (
       omega arith,
       omega arith,
-      one-more _ (x .lo) i (now (x .row)) (l .loop .row) (c .either .result) over (omega arith) (omega (arith, over .long))
-          (c .either .ensures ∙ ap (λ (y : ℕ). codeOf (or3 (valueOf y) (valueOf (x .code)))) (over .above i (omega arith))),
+      one-more _ (x .lo) i (now (x .row)) (l .loop .row) (c .merge .result) over (omega arith) (omega (arith, over .long))
+          (c .merge .ensures ∙ ap (λ (y : ℕ). codeOf (or3 (valueOf y) (valueOf (x .code)))) (over .above i (omega arith))),
     )
 
 returns : tie.Need-returns Inv-loop μ-loop
@@ -60,8 +60,8 @@ join-spec =
     Inv-loop
     μ-loop
     loop-holds
-    element-copy-out-either
-    either-requires
+    element-copy-out-merge
+    merge-requires
     element-write-row
     add-i
     loop-less

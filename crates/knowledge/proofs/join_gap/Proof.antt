@@ -12,17 +12,17 @@ use Rattle.knowledge.proofs.join_gap.Statement.{statement}
 use Rattle.knowledge.proofs.join_gap.Tie as tie
 use Rattle.knowledge.proofs.join_gap.Reads as reads
 use Rattle.knowledge.proofs.join_gap.Lts as lts
-use Rattle.kleene.proofs.either.Reads as either-reads
+use Rattle.knowledge.proofs.merge.Reads as merge-reads
 use Rattle.knowledge.proofs.join.Reads as join-reads
 
 sub-if1 : tie.Need-sub-if1
 sub-if1 c = search needs
 
-element-copy-out-either : tie.Need-element-copy-out-either
-element-copy-out-either c = search needs
+element-copy-out-merge : tie.Need-element-copy-out-merge
+element-copy-out-merge c = search needs
 
-either-requires : tie.Need-either-requires
-either-requires c κs = search needs
+merge-requires : tie.Need-merge-requires
+merge-requires c κs = search needs
 
 element-write-row : tie.Need-element-write-row
 element-write-row c = search needs
@@ -33,8 +33,8 @@ returns c =
     let x = s .args in
     let old = now (x .row) in
     let one : x .hi ≡ x .lo + 1 = omega (arith, c .before .before .if1 .taken) in
-    subst (λ (n : ℕ). Over (λ i. codeOf (or3 (valueOf (getD old i 0)) (valueOf (x .code)))) (x .lo) n old (set old (x .lo) (c .either .result))) (sym one)
-    (one-more _ (x .lo) (x .lo) old old (c .either .result) (untouched _ (x .lo) old) (omega arith) (omega (arith, one)) (c .either .ensures))
+    subst (λ (n : ℕ). Over (λ i. codeOf (or3 (valueOf (getD old i 0)) (valueOf (x .code)))) (x .lo) n old (set old (x .lo) (c .merge .result))) (sym one)
+    (one-more _ (x .lo) (x .lo) old old (c .merge .result) (untouched _ (x .lo) old) (omega arith) (omega (arith, one)) (c .merge .ensures))
 
 join-requires : tie.Need-join-requires
 join-requires c κs = search needs
@@ -47,8 +47,8 @@ join-gap-spec =
     tie.close
     (tie.spec
     sub-if1
-    element-copy-out-either
-    either-requires
+    element-copy-out-merge
+    merge-requires
     element-write-row
     returns
     join-requires
