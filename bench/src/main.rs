@@ -7,7 +7,9 @@ use bench::timing::{in_turns, ratios, Spread};
 use bench::workload::{Shape, Workload, LARGEST};
 use std::env::args;
 
-const SAMPLES: usize = 41;
+/// How many times over each is measured, beside the others and in the growth.
+const SAMPLES: usize = 201;
+const GROWTH_SAMPLES: usize = 1_001;
 const MICRO: f64 = 1e6;
 
 fn main() {
@@ -81,7 +83,7 @@ fn count() {
 /// Growth with one size, the others as they are.
 fn grow(name: &str, sizes: &[usize], shape: impl Fn(usize) -> Shape) {
     let shapes: Vec<(usize, Shape)> = sizes.iter().map(|&size| (size, shape(size))).collect();
-    let measured = points(&shapes, SAMPLES);
+    let measured = points(&shapes, GROWTH_SAMPLES);
     println!("Growth with {name}: {} components", shapes[0].1.components);
     for point in &measured {
         println!("{:>12} {:>12.2} µs", point.size, point.time * MICRO);

@@ -5,7 +5,7 @@ use crate::workload::Workload;
 use std::time::Instant;
 
 /// A sample runs at least so many seconds.
-const SAMPLE: f64 = 0.004;
+const SAMPLE: f64 = 0.001;
 
 /// Some measured values, in order.
 pub struct Spread {
