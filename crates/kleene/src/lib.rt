@@ -1,6 +1,8 @@
 // Kleene's three truth values as codes: 0 unknown, 1 true, 2 false. A code above 2 reads as unknown.
 ghost use mathlib.Core.Path.{_≡_};
-ghost use Prim.Native.Nat.{_<_};
+ghost use Prim.Native.Nat.{ℕ, _<_};
+ghost use mathlib.Core.List.{[]};
+ghost use lib.ListN.{getD};
 ghost use Rattle.kleene.specs.Truth.{codeOf, valueOf, not3, or3, and3, implies3};
 ghost use Rattle.kleene.specs.Rank.{rankOf};
 
@@ -10,7 +12,7 @@ const OR: [[u8; 3]; 3] = [[0, 1, 0], [1, 1, 1], [0, 1, 2]];
 const NOT: [u8; 3] = [0, 2, 1];
 
 // A code as an index of the tables.
-fn index(x: u8) -> usize
+pub fn index(x: u8) -> usize
     ensures { λ r. ⌜ (r < 3) × (valueOf r ≡ valueOf x) ⌝ }
 {
     if x < 3 { x as usize } else { 0 }
@@ -20,6 +22,13 @@ pub fn not(x: u8) -> u8
     ensures { λ r. ⌜ r ≡ codeOf (not3 (valueOf x)) ⌝ }
 {
     NOT[index(x)]
+}
+
+// The table itself, for a loop that asks it often.
+pub fn or_table() -> [[u8; 3]; 3]
+    ensures { λ r. ⌜ ((i j : ℕ) → i < 3 → j < 3 → getD (getD r i []) j 0 ≡ codeOf (or3 (valueOf i) (valueOf j))) ⌝ }
+{
+    OR
 }
 
 pub fn or(x: u8, y: u8) -> u8

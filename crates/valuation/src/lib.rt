@@ -281,9 +281,12 @@ pub fn or_row(left: &[u8], right: &[u8], row: &mut [u8; 1024])
     requires { ⌜ (length (now left) ≤ 1024) × (length (now right) ≡ length (now left)) × (length (now row) ≡ 1024) ⌝ }
     ensures { λ _. ⌜ (length (now (row .exit)) ≡ 1024) × ((f g : ℕ → Truth) → Shows (now (left .entry)) f → Shows (now (right .entry)) g → Row (length (now (left .entry))) (λ t. or3 (f t) (g t)) (now (row .exit))) ⌝ }
 {
+    let table = kleene::or_table();
     let mut t: usize = 0;
     while t < left.len() {
-        row[t] = kleene::or(left[t], right[t]);
+        let i = kleene::index(left[t]);
+        let j = kleene::index(right[t]);
+        row[t] = table[i][j];
         t += 1;
     }
 }

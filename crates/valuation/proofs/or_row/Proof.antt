@@ -1,47 +1,62 @@
 -- `valuation::or_row` meets its contract. The invariant of its loop: the cells before t are the codes of or. Assumes nothing.
-use mathlib.Core.Path.{_≡_, sym, ap, ap₂, subst, _∙_}
+use mathlib.Core.Path.{_≡_, ap₂, subst, _∙_}
 use mathlib.Core.List.{List}
-use Prim.Native.Nat.{ℕ, _+_, _-_, _*_, _≤_}
+use Prim.Native.Nat.{ℕ, _-_, _≤_}
 use native.Mathlib.Omega.{arith}
 use denote.Ref.{now}
 use lib.ListN.{length, getD}
 use Rattle.kleene.specs.Truth.{Truth, codeOf, valueOf, or3}
 use Rattle.rows.specs.Over.{Over}
 use Rattle.rows.specs.Laws.{untouched, one-more}
-use Rattle.valuation.specs.Rows.{Row}
 use Rattle.valuation.proofs.Shown.{filled, read-as}
 use Rattle.valuation.proofs.or_row.Statement.{statement}
 use Rattle.valuation.proofs.or_row.Tie as tie
 use Rattle.valuation.proofs.or_row.Reads as reads
 use Rattle.valuation.proofs.or_row.Lts as lts
-use Rattle.kleene.proofs.or.Reads as or-reads
+use Rattle.kleene.proofs.index.Reads as index-reads
+use Rattle.kleene.proofs.or_table.Reads as or-table-reads
 
 abbrev of : List ℕ → List ℕ → ℕ → Truth
 of left right s = or3 (valueOf (getD left s 0)) (valueOf (getD right s 0))
 
 abbrev Inv-loop : tie.InvT-loop
-Inv-loop left right row₀ t₀ row t = (t ≤ length left) × Over (λ s. codeOf (of left right s)) 0 t row₀ row
+Inv-loop left right row₀ table t₀ row t = (t ≤ length left) × Over (λ s. codeOf (of left right s)) 0 t row₀ row
 
 abbrev μ-loop : tie.MeasureT-loop
-μ-loop left right row₀ t₀ row t = length left - t
+μ-loop left right row₀ table t₀ row t = length left - t
+
+or-table-requires : tie.Need-or-table-requires Inv-loop μ-loop
+or-table-requires c κs = tt
 
 loop-holds : tie.Need-loop-holds Inv-loop μ-loop
 loop-holds c =
-    let x = c .before .before .args in
+    let x = c .before .before .before .args in
     (omega arith, untouched (λ s. codeOf (of (now (x .left)) (now (x .right)) s)) 0 (now (x .row)))
 
-shared-slice-read-or : tie.Need-shared-slice-read-or Inv-loop μ-loop
-shared-slice-read-or c = omega arith
+shared-slice-read-index : tie.Need-shared-slice-read-index Inv-loop μ-loop
+shared-slice-read-index c = omega arith
 
-shared-slice-read-or-2 : tie.Need-shared-slice-read-or-2 Inv-loop μ-loop
-shared-slice-read-or-2 c = omega arith
+index-requires : tie.Need-index-requires Inv-loop μ-loop
+index-requires c κs = tt
 
-or-requires : tie.Need-or-requires Inv-loop μ-loop
-or-requires c κs = omega arith
+shared-slice-read-index-2 : tie.Need-shared-slice-read-index-2 Inv-loop μ-loop
+shared-slice-read-index-2 c = omega arith
+
+index-requires-2 : tie.Need-index-requires-2 Inv-loop μ-loop
+index-requires-2 c κs = tt
+
+mul-row : tie.Need-mul-row Inv-loop μ-loop
+mul-row c = omega (arith, c .before .before .index .ensures .0)
+
+index-1-row : tie.Need-index-1-row Inv-loop μ-loop
+index-1-row c = c .before .before .index .ensures .0
+
+index-2-row : tie.Need-index-2-row Inv-loop μ-loop
+index-2-row c = c .index2 .ensures .0
 
 element-write-row : tie.Need-element-write-row Inv-loop μ-loop
 element-write-row c =
-    let l = c .before .before .before .before in
+    let l = c .before .before .before .before .before .before in
     omega (arith, l .loop .inv .1 .long)
 
 add-t : tie.Need-add-t Inv-loop μ-loop
@@ -52,15 +67,18 @@ loop-less c = omega arith
 
 loop-again : tie.Need-loop-again Inv-loop μ-loop
 loop-again c =
-    let l = c .before .before .before .before in
-    let x = l .before .before .before .args in
+    let l = c .before .before .before .before .before .before in
+    let x = l .before .before .before .before .args in
     let old = l .loop .inv .1 in
-    (omega arith, one-more (λ s. codeOf (of (now (x .left)) (now (x .right)) s)) 0 (l .loop .t) (now (x .row)) (l .loop .row) (c .or .result) old (omega arith) (omega (arith, old .long)) (c .or .ensures))
+    let i = c .before .before .before .index in
+    let j = c .before .index2 in
+    let entry = l .before .or-table .ensures (i .result) (j .result) (i .ensures .0) (j .ensures .0) ∙ ap₂ (λ (v w : Truth). codeOf (or3 v w)) (i .ensures .1) (j .ensures .1) in
+    (omega arith, one-more (λ s. codeOf (of (now (x .left)) (now (x .right)) s)) 0 (l .loop .t) (now (x .row)) (l .loop .row) _ old (omega arith) (omega (arith, old .long)) entry)
 
 returns : tie.Need-returns Inv-loop μ-loop
 returns c =
     let l = c .before in
-    let s = l .before .before .before in
+    let s = l .before .before .before .before in
     let x = s .args in
     let m = now (x .left) in
     let n = now (x .right) in
@@ -74,10 +92,15 @@ or-row-spec =
     (tie.spec
     Inv-loop
     μ-loop
+    or-table-requires
     loop-holds
-    shared-slice-read-or
-    shared-slice-read-or-2
-    or-requires
+    shared-slice-read-index
+    index-requires
+    shared-slice-read-index-2
+    index-requires-2
+    mul-row
+    index-1-row
+    index-2-row
     element-write-row
     add-t
     loop-less
