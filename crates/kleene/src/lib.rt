@@ -51,7 +51,8 @@ pub fn implies(x: u8, y: u8) -> u8
     or(not(x), y)
 }
 
-// The rank of `x and y`, its place in the order false < unknown < true. By tests and no table, for inner loops: there a table is built anew each time round.
+// The rank of `x and y`, its place in the order false < unknown < true. By tests and no table, for inner loops: there a table is built
+// anew each time round.
 pub fn both(x: u8, y: u8) -> u8
     ensures { λ r. ⌜ r ≡ rankOf (and3 (valueOf x) (valueOf y)) ⌝ }
 {

@@ -9,15 +9,15 @@ use lib.Dec.{ltb}
 use borrow.Author.Tests.{lt-ltb, le-ltb}
 use Rattle.kleene.specs.Truth.{Truth, unknown, true3, false3, or3}
 use Rattle.mtl.specs.Algebra.{three, meet, implies, fold, any}
-use Rattle.mtl.specs.Reading.{World, point, meets, keeps, since}
+use Rattle.mtl.specs.Reading.{World, seen, point, meets, keeps, since}
 
 -- f after n minutes at which it is false
 unfoldable pub later : ℕ → (ℕ → Truth) → ℕ → Truth
 later n f t = cond (ltb t n) false3 (f (t - n))
 
--- the world after n such minutes
+-- the world, as its window shows it, after n such minutes
 abbrev pub put-before : ℕ → World Truth → World Truth
-put-before n w = record { time-point = later n (point three w); proposition = λ p. later n (w .proposition p); window = λ _. true; outside = w .outside }
+put-before n w = record { time-point = later n (point three w); proposition = λ p. later n (λ t. seen w t (w .proposition p t)); window = λ _. true; outside = w .outside }
 
 later-early : (n : ℕ) (f : ℕ → Truth) (t : ℕ) → t < n → later n f t ≡ false3
 unfolding later
@@ -104,6 +104,7 @@ module _ (w : World Truth) (α β : ℕ → Truth) (n lower upper t : ℕ) (far 
   from : (lo c : ℕ) → any three (lo + n) c there ≡ any three lo c here
   from lo c = shifted or3 false3 n lo c there here same
 
+  -- α, β and e are false at the n minutes before
   pub before : since three v (later n α) (later n β) lower upper (t + n) ≡ since three w α β lower upper t
   unfolding since
   before = go (decLt t upper) (decLt (suc t) lower)

@@ -4,11 +4,9 @@ use Rattle.encoding.proofs.is_written.Tie as tie
 use Rattle.encoding.proofs.is_written.Reads as reads
 use Rattle.encoding.proofs.is_written.Lts as lts
 
--- src/lib.rt:71:1
 returns : tie.Need-returns
 returns c = simp (c .if1 .taken)
 
--- src/lib.rt:71:1
 returns-2 : tie.Need-returns-2
 returns-2 c = search needs
 

@@ -8,31 +8,25 @@ use Rattle.encoding.proofs.read16.Reads as reads
 use Rattle.encoding.proofs.read16.Lts as lts
 use Rattle.encoding.proofs.word.Reads as word-reads
 
--- src/lib.rt:54:21
 shared-slice-read-word : tie.Need-shared-slice-read-word
 shared-slice-read-word c =
     let a = c .before .before .before .args in
     omega (arith, fits (a .present) (a .at) 2 _ (c .before .if1 .taken) (c .before .before .before .pre))
 
--- src/lib.rt:54:30
 add-word : tie.Need-add-word
 add-word c = search needs
 
--- src/lib.rt:54:28
 shared-slice-read-word-2 : tie.Need-shared-slice-read-word-2
 shared-slice-read-word-2 c =
     let a = c .before .before .before .before .args in
     omega (arith, fits (a .present) (a .at) 2 _ (c .before .before .if1 .taken) (c .before .before .before .before .pre))
 
--- src/lib.rt:54:9
 word-requires : tie.Need-word-requires
 word-requires c κs = search needs
 
--- src/lib.rt:54:9
 returns : tie.Need-returns
 returns c = c .word .ensures ∙ its (c .before .before .before .before .before .args .present) _ (c .before .before .before .if1 .taken)
 
--- src/lib.rt:49:1
 returns-2 : tie.Need-returns-2
 returns-2 c = search needs
 

@@ -8,51 +8,41 @@ use Rattle.encoding.proofs.read32.Reads as reads
 use Rattle.encoding.proofs.read32.Lts as lts
 use Rattle.encoding.proofs.long.Reads as long-reads
 
--- src/lib.rt:65:21
 shared-slice-read-long : tie.Need-shared-slice-read-long
 shared-slice-read-long c =
     let a = c .before .before .before .args in
     omega (arith, fits (a .present) (a .at) 4 _ (c .before .if1 .taken) (c .before .before .before .pre))
 
--- src/lib.rt:65:30
 add-long : tie.Need-add-long
 add-long c = search needs
 
--- src/lib.rt:65:28
 shared-slice-read-long-2 : tie.Need-shared-slice-read-long-2
 shared-slice-read-long-2 c =
     let a = c .before .before .before .before .args in
     omega (arith, fits (a .present) (a .at) 4 _ (c .before .before .if1 .taken) (c .before .before .before .before .pre))
 
--- src/lib.rt:65:41
 add-long-2 : tie.Need-add-long-2
 add-long-2 c = search needs
 
--- src/lib.rt:65:39
 shared-slice-read-long-3 : tie.Need-shared-slice-read-long-3
 shared-slice-read-long-3 c =
     let a = c .before .before .before .before .before .args in
     omega (arith, fits (a .present) (a .at) 4 _ (c .before .before .before .if1 .taken) (c .before .before .before .before .before .pre))
 
--- src/lib.rt:65:52
 add-long-3 : tie.Need-add-long-3
 add-long-3 c = search needs
 
--- src/lib.rt:65:50
 shared-slice-read-long-4 : tie.Need-shared-slice-read-long-4
 shared-slice-read-long-4 c =
     let a = c .before .before .before .before .before .before .args in
     omega (arith, fits (a .present) (a .at) 4 _ (c .before .before .before .before .if1 .taken) (c .before .before .before .before .before .before .pre))
 
--- src/lib.rt:65:9
 long-requires : tie.Need-long-requires
 long-requires c κs = search needs
 
--- src/lib.rt:65:9
 returns : tie.Need-returns
 returns c = c .long .ensures ∙ its (c .before .before .before .before .before .before .before .args .present) _ (c .before .before .before .before .before .if1 .taken)
 
--- src/lib.rt:60:1
 returns-2 : tie.Need-returns-2
 returns-2 c = search needs
 

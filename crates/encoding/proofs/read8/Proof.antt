@@ -7,17 +7,14 @@ use Rattle.encoding.proofs.read8.Tie as tie
 use Rattle.encoding.proofs.read8.Reads as reads
 use Rattle.encoding.proofs.read8.Lts as lts
 
--- src/lib.rt:43:16
 shared-slice-read-result : tie.Need-shared-slice-read-result
 shared-slice-read-result c =
     let a = c .before .before .args in
     omega (arith, fits (a .present) (a .at) 1 _ (c .before .if1 .taken) (c .before .before .pre))
 
--- src/lib.rt:43:9
 returns : tie.Need-returns
 returns c = its (c .before .before .args .present) _ (c .before .if1 .taken)
 
--- src/lib.rt:38:1
 returns-2 : tie.Need-returns-2
 returns-2 c = search needs
 

@@ -8,23 +8,18 @@ use Rattle.kleene.proofs.and.Lts as lts
 use Rattle.kleene.proofs.not.Reads as not-reads
 use Rattle.kleene.proofs.or.Reads as or-reads
 
--- src/lib.rt:34:12
 not-requires : tie.Need-not-requires
 not-requires c κs = search needs
 
--- src/lib.rt:34:20
 not-requires-2 : tie.Need-not-requires-2
 not-requires-2 c κs = search needs
 
--- src/lib.rt:34:9
 or-requires : tie.Need-or-requires
 or-requires c κs = search needs
 
--- src/lib.rt:34:5
 not-requires-3 : tie.Need-not-requires-3
 not-requires-3 c κs = search needs
 
--- src/lib.rt:31:1
 returns : tie.Need-returns
 returns c =
     let a = c .before .before .before .before .args in

@@ -14,7 +14,6 @@ use Rattle.kleene.proofs.both.Lts as lts
 rule : (x y : ℕ) → rankOf (and3 (valueOf x) (valueOf y)) ≡ ranked (eqb x 2 || eqb y 2) (eqb x 1 && eqb y 1)
 rule x y = rank-of-both (valueOf x) (valueOf y) _ _ _ _ (rank-of x) (rank-of y)
 
--- src/lib.rt
 returns : tie.Need-returns
 returns c = is-false _ _ _ (rule (c .before .args .x) (c .before .args .y)) (c .if1 .taken)
 

@@ -8,15 +8,12 @@ use Rattle.kleene.proofs.implies.Lts as lts
 use Rattle.kleene.proofs.not.Reads as not-reads
 use Rattle.kleene.proofs.or.Reads as or-reads
 
--- src/lib.rt:41:8
 not-requires : tie.Need-not-requires
 not-requires c κs = search needs
 
--- src/lib.rt:41:5
 or-requires : tie.Need-or-requires
 or-requires c κs = search needs
 
--- src/lib.rt:38:1
 returns : tie.Need-returns
 returns c =
     let x = read-back (c .before .not .result) (not3 (valueOf (c .before .before .args .x))) (c .before .not .ensures) in

@@ -9,15 +9,12 @@ use Rattle.kleene.proofs.not.Reads as reads
 use Rattle.kleene.proofs.not.Lts as lts
 use Rattle.kleene.proofs.index.Reads as index-reads
 
--- src/lib.rt:21:9
 index-requires : tie.Need-index-requires
 index-requires c κs = search needs
 
--- src/lib.rt:21:5
 array-read-result : tie.Need-array-read-result
 array-read-result c = search needs
 
--- src/lib.rt:18:1
 returns : tie.Need-returns
 returns c = not-rule (0 ∷ 2 ∷ 1 ∷ []) tt (c .index .result) (c .index .ensures .0) ∙ ap (λ (v : Truth). codeOf (not3 v)) (c .index .ensures .1)
 

@@ -9,27 +9,21 @@ use Rattle.kleene.proofs.or.Reads as reads
 use Rattle.kleene.proofs.or.Lts as lts
 use Rattle.kleene.proofs.index.Reads as index-reads
 
--- src/lib.rt:27:8
 index-requires : tie.Need-index-requires
 index-requires c κs = search needs
 
--- src/lib.rt:27:18
 index-requires-2 : tie.Need-index-requires-2
 index-requires-2 c κs = search needs
 
--- src/lib.rt:27:5
 mul-result : tie.Need-mul-result
 mul-result c = search needs
 
--- src/lib.rt:27:5
 index-1-result : tie.Need-index-1-result
 index-1-result c = search needs
 
--- src/lib.rt:27:5
 index-2-result : tie.Need-index-2-result
 index-2-result c = search needs
 
--- src/lib.rt:24:1
 returns : tie.Need-returns
 returns c =
     let i = c .before .before .index in

@@ -11,19 +11,15 @@ use Rattle.monitor.proofs.lookup.Reads as lookup-reads
 use Rattle.monitor_c.proofs.look_detail.Reads as look-detail-reads
 use Rattle.monitor_c.proofs.look_number.Reads as look-number-reads
 
--- src/lib.rt:106:9
 lookup-requires : tie.Need-lookup-requires
 lookup-requires c κs = search needs
 
--- src/lib.rt:107:15
 look-detail-requires : tie.Need-look-detail-requires
 look-detail-requires c κs = search needs
 
--- src/lib.rt:108:5
 look-number-requires : tie.Need-look-number-requires
 look-number-requires c κs = search needs
 
--- src/lib.rt:95:1
 returns : tie.Need-returns
 returns c = (c .look-number .ensures ∙ ap look-number (c .before .before .lookup .ensures), c .before .look-detail .ensures ∙ ap look-detail (c .before .before .lookup .ensures))
 

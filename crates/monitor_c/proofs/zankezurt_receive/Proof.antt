@@ -10,35 +10,27 @@ use Rattle.monitor.proofs.receive.Reads as receive-reads
 use Rattle.monitor_c.proofs.answer_detail.Reads as answer-detail-reads
 use Rattle.monitor_c.proofs.answer_number.Reads as answer-number-reads
 
--- src/lib.rt:89:9
 receive-requires : tie.Need-receive-requires
 receive-requires c κs = search needs
 
--- src/lib.rt:90:15
 answer-detail-requires : tie.Need-answer-detail-requires
 answer-detail-requires c κs = search needs
 
--- src/lib.rt:91:5
 answer-number-requires : tie.Need-answer-number-requires
 answer-number-requires c κs = search needs
 
--- src/lib.rt:77:1
 same-length : tie.Need-same-length
 same-length c = search needs
 
--- src/lib.rt:77:1
 same-length-2 : tie.Need-same-length-2
 same-length-2 c = search needs
 
--- src/lib.rt:77:1
 same-length-3 : tie.Need-same-length-3
 same-length-3 c = search needs
 
--- src/lib.rt:77:1
 same-length-4 : tie.Need-same-length-4
 same-length-4 c = search needs
 
--- src/lib.rt:77:1
 returns : tie.Need-returns
 returns c = handed _ _ _ _ _ (c .before .before .before .before .before .before .before .before .before .before .receive .ensures) (c .before .answer-detail .ensures) (c .answer-number .ensures)
 

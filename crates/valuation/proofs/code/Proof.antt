@@ -8,15 +8,12 @@ use Rattle.valuation.proofs.code.Tie as tie
 use Rattle.valuation.proofs.code.Reads as reads
 use Rattle.valuation.proofs.code.Lts as lts
 
--- src/lib.rt:42:9
 returns : tie.Need-returns
 returns c x s m = sym (ap codeOf (reaches-true x (leb-true 2 (rankOf x) (sym s ∙ c .if1 .taken))))
 
--- src/lib.rt:45:9
 returns-2 : tie.Need-returns-2
 returns-2 c x s m = sym (ap codeOf (reaches-unknown x (leb-false 2 (rankOf x) (sym s ∙ c .before .if1 .left)) (leb-true 1 (rankOf x) (sym m ∙ c .if2 .taken))))
 
--- src/lib.rt:38:1
 returns-3 : tie.Need-returns-3
 returns-3 c x s m = sym (ap codeOf (reaches-none x (leb-false 1 (rankOf x) (sym m ∙ c .if2 .left))))
 

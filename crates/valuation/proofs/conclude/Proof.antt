@@ -27,21 +27,17 @@ Inv-loop points valuation verdicts₀ policy minutes count total₀ at₀ i₀ v
 abbrev μ-loop : tie.MeasureT-loop
 μ-loop points valuation verdicts₀ policy minutes count total₀ at₀ i₀ verdicts total at i = count - i
 
--- src/lib.rt:378:5
 loop-holds : tie.Need-loop-holds Inv-loop μ-loop
 loop-holds c =
     let x = c .before .before .before .args in
     (omega arith, none-yet (x .t1) (now (x .points)) (now (x .valuation)) (now (x .verdicts)))
 
--- src/lib.rt:379:20
 mul-line : tie.Need-mul-line Inv-loop μ-loop
 mul-line c = omega (arith, c .before .before .before .before .before .pre .0 .count .high)
 
--- src/lib.rt:379:20
 element-copy-out-line : tie.Need-element-copy-out-line Inv-loop μ-loop
 element-copy-out-line c = omega (arith, c .before .before .before .before .before .pre .0 .count .high)
 
--- src/lib.rt:381:24
 mul-from : tie.Need-mul-from Inv-loop μ-loop
 mul-from c =
     let l = c .before .before .before in
@@ -52,7 +48,6 @@ mul-from c =
     let line = next-row (p .count) (p .sizes .minutes) (l .loop .i) h in
     omega (arith, pre .2)
 
--- src/lib.rt:382:22
 add-to : tie.Need-add-to Inv-loop μ-loop
 add-to c =
     let l = c .before .before .before in
@@ -63,7 +58,6 @@ add-to c =
     let line = next-row (p .count) (p .sizes .minutes) (l .loop .i) h in
     omega (arith, pre .2)
 
--- src/lib.rt:383:23
 add-end : tie.Need-add-end Inv-loop μ-loop
 add-end c =
     let l = c .before .before .before in
@@ -75,15 +69,12 @@ add-end c =
     let room = rule-fits p (now (s .args .points)) (now (s .args .valuation)) (now (s .args .verdicts)) (l .loop .verdicts) (l .loop .i) (l .loop .total) (l .loop .at) (l .loop .inv .1) (pre .0) h (c .if1 .taken) (omega (arith, l .loop .inv .1 .long, pre .3)) in
     omega (arith, room)
 
--- src/lib.rt:384:42
 sub-verdict-row : tie.Need-sub-verdict-row Inv-loop μ-loop
 sub-verdict-row c = omega arith
 
--- src/lib.rt:384:42
 part-verdict-row-start : tie.Need-part-verdict-row-start Inv-loop μ-loop
 part-verdict-row-start c = search needs
 
--- src/lib.rt:384:42
 part-verdict-row-end : tie.Need-part-verdict-row-end Inv-loop μ-loop
 part-verdict-row-end c =
     let l = c .before .before .before .before in
@@ -94,15 +85,12 @@ part-verdict-row-end c =
     let line = next-row (p .count) (p .sizes .minutes) (l .loop .i) h in
     search needs
 
--- src/lib.rt:384:64
 sub-verdict-row-2 : tie.Need-sub-verdict-row-2 Inv-loop μ-loop
 sub-verdict-row-2 c = omega arith
 
--- src/lib.rt:384:64
 part-verdict-row-start-2 : tie.Need-part-verdict-row-start-2 Inv-loop μ-loop
 part-verdict-row-start-2 c = search needs
 
--- src/lib.rt:384:64
 part-verdict-row-end-2 : tie.Need-part-verdict-row-end-2 Inv-loop μ-loop
 part-verdict-row-end-2 c =
     let l = c .before .before .before .before .before in
@@ -114,7 +102,6 @@ part-verdict-row-end-2 c =
     let room = rule-fits p (now (s .args .points)) (now (s .args .valuation)) (now (s .args .verdicts)) (l .loop .verdicts) (l .loop .i) (l .loop .total) (l .loop .at) (l .loop .inv .1) (pre .0) h (c .before .before .if1 .taken) (omega (arith, l .loop .inv .1 .long, pre .3)) in
     search needs
 
--- src/lib.rt:384:22
 verdict-row-requires : tie.Need-verdict-row-requires Inv-loop μ-loop
 verdict-row-requires c κs =
     let l = c .before .before .before .before .before .before in
@@ -127,7 +114,6 @@ verdict-row-requires c κs =
     let m = p .sizes .minutes in
     (simp (length-take, length-drop) (omega (arith, room, line, pre .2)), simp (length-take, length-drop) (omega (arith, pre .1, pre .0 .minutes .high)))
 
--- src/lib.rt:384:13
 add-total : tie.Need-add-total Inv-loop μ-loop
 add-total c =
     let l = c .before .before .before .before .before .before .before .before .before in
@@ -142,15 +128,12 @@ add-total c =
     let part : length (take (l .loop .at + m - l .loop .at) (drop (l .loop .at) (l .loop .verdicts))) ≤ m = simp (length-take, length-drop) (omega arith) in
     omega (arith, room, l .loop .inv .1 .few, v .ensures .counted, standing-le (v .last .1 .1 .0), v .ensures .written .long, part)
 
--- src/lib.rt:387:9
 add-i : tie.Need-add-i Inv-loop μ-loop
 add-i c = omega (arith, c .before .before .before .before .before .before .before .pre .0 .count .high)
 
--- src/lib.rt:378:5
 loop-less : tie.Need-loop-less Inv-loop μ-loop
 loop-less c = omega arith
 
--- src/lib.rt:378:5
 loop-again : tie.Need-loop-again Inv-loop μ-loop
 loop-again c =
     let l = c .before .before .before in
@@ -180,11 +163,9 @@ loop-again c =
           (c .if1 .came),
     )
 
--- src/lib.rt:368:1
 same-length : tie.Need-same-length Inv-loop μ-loop
 same-length c = search needs
 
--- src/lib.rt:368:1
 returns : tie.Need-returns Inv-loop μ-loop
 returns c k q v =
     let l = c .before in

@@ -6,27 +6,22 @@ use Rattle.valuation.proofs.fact_code.Tie as tie
 use Rattle.valuation.proofs.fact_code.Reads as reads
 use Rattle.valuation.proofs.fact_code.Lts as lts
 
--- src/lib.rt:193:9
 shr-if1 : tie.Need-shr-if1
 shr-if1 c = search needs
 
--- src/lib.rt:194:9
 returns : tie.Need-returns
 returns c k t p q =
     let x = c .before .args in
     is-unknown k (x .proposition) t (x .known) (x .values) p q (c .if1 .taken)
 
--- src/lib.rt:196:9
 shr-if2 : tie.Need-shr-if2
 shr-if2 c = search needs
 
--- src/lib.rt:197:9
 returns-2 : tie.Need-returns-2
 returns-2 c k t p q =
     let x = c .before .before .args in
     is-false k (x .proposition) t (x .known) (x .values) p q (c .before .if1 .left) (c .if2 .taken)
 
--- src/lib.rt:188:1
 returns-3 : tie.Need-returns-3
 returns-3 c k t p q =
     let x = c .before .before .args in

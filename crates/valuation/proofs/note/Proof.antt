@@ -7,15 +7,12 @@ use Rattle.valuation.proofs.note.Tie as tie
 use Rattle.valuation.proofs.note.Reads as reads
 use Rattle.valuation.proofs.note.Lts as lts
 
--- src/lib.rt:26:9
 returns : tie.Need-returns
 returns c = simp (le-leb 2 (c .before .args .rank) (omega arith), le-leb 1 (c .before .args .rank) (omega arith)) (refl, refl)
 
--- src/lib.rt:29:9
 returns-2 : tie.Need-returns-2
 returns-2 c = simp (lt-leb 2 (c .before .before .args .rank) (omega arith), le-leb 1 (c .before .before .args .rank) (omega arith)) (refl, refl)
 
--- src/lib.rt:22:1
 returns-3 : tie.Need-returns-3
 returns-3 c = simp (lt-leb 2 (c .before .before .args .rank) (omega arith), lt-leb 1 (c .before .before .args .rank) (omega arith)) (refl, refl)
 

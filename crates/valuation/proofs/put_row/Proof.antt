@@ -18,27 +18,21 @@ Inv-loop run₀ row t₀ run t = (t ≤ length run₀) × (length run ≡ length
 abbrev μ-loop : tie.MeasureT-loop
 μ-loop run₀ row t₀ run t = length run₀ - t
 
--- src/lib.rt:307:5
 loop-holds : tie.Need-loop-holds Inv-loop μ-loop
 loop-holds c = (omega arith, refl, untouched (λ s. getD (now (c .args .row)) s 0) 0 (now (c .args .run)))
 
--- src/lib.rt:308:18
 element-copy-out-run : tie.Need-element-copy-out-run Inv-loop μ-loop
 element-copy-out-run c = search needs
 
--- src/lib.rt:308:9
 slice-write-run : tie.Need-slice-write-run Inv-loop μ-loop
 slice-write-run c = search needs
 
--- src/lib.rt:309:9
 add-t : tie.Need-add-t Inv-loop μ-loop
 add-t c = search needs
 
--- src/lib.rt:307:5
 loop-less : tie.Need-loop-less Inv-loop μ-loop
 loop-less c = search needs
 
--- src/lib.rt:307:5
 loop-again : tie.Need-loop-again Inv-loop μ-loop
 loop-again c =
     let l = c .before .before in
@@ -47,11 +41,9 @@ loop-again c =
     let next = one-more (λ s. getD (now (x .row)) s 0) 0 (l .loop .t) (now (x .run)) (l .loop .run) (getD (now (x .row)) (l .loop .t) 0) old (omega arith) (omega arith) refl in
     (omega arith, next .long, next)
 
--- src/lib.rt:302:1
 same-length : tie.Need-same-length Inv-loop μ-loop
 same-length c = search needs
 
--- src/lib.rt:302:1
 returns : tie.Need-returns Inv-loop μ-loop
 returns c =
     let l = c .before in

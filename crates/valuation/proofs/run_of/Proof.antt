@@ -8,27 +8,21 @@ use Rattle.valuation.proofs.run_of.Tie as tie
 use Rattle.valuation.proofs.run_of.Reads as reads
 use Rattle.valuation.proofs.run_of.Lts as lts
 
--- src/lib.rt:249:14
 mul-at : tie.Need-mul-at
 mul-at c = search needs
 
--- src/lib.rt:250:15
 add-end : tie.Need-add-end
 add-end c = search needs
 
--- src/lib.rt:251:5
 sub-result : tie.Need-sub-result
 sub-result c = search needs
 
--- src/lib.rt:251:5
 part-result-start : tie.Need-part-result-start
 part-result-start c = search needs
 
--- src/lib.rt:251:5
 part-result-end : tie.Need-part-result-end
 part-result-end c = search needs
 
--- src/lib.rt:245:1
 returns : tie.Need-returns
 returns c =
     let x = c .before .args in

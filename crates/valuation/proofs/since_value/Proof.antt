@@ -10,19 +10,15 @@ use Rattle.valuation.proofs.since_value.Lts as lts
 use Rattle.valuation.proofs.code.Reads as code-reads
 use Rattle.valuation.proofs.since_reaches.Reads as since-reaches-reads
 
--- src/lib.rt:88:9
 since-reaches-requires : tie.Need-since-reaches-requires
 since-reaches-requires c κs = search needs
 
--- src/lib.rt:89:9
 since-reaches-requires-2 : tie.Need-since-reaches-requires-2
 since-reaches-requires-2 c κs = search needs
 
--- src/lib.rt:90:5
 code-requires : tie.Need-code-requires
 code-requires c κs = search needs
 
--- src/lib.rt:85:1
 returns : tie.Need-returns
 returns c w α β lower upper t s A B =
     c .code .ensures (since three w α β lower upper t)

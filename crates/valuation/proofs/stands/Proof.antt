@@ -6,11 +6,9 @@ use Rattle.valuation.proofs.stands.Tie as tie
 use Rattle.valuation.proofs.stands.Reads as reads
 use Rattle.valuation.proofs.stands.Lts as lts
 
--- src/lib.rt:345:1
 returns : tie.Need-returns
 returns c = rw (eq-eqb (c .before .args .verdict) 0 (c .if1 .taken)) refl
 
--- src/lib.rt:345:1
 returns-2 : tie.Need-returns-2
 returns-2 c = rw (ne-eqb (c .before .args .verdict) 0 (c .if1 .left)) refl
 

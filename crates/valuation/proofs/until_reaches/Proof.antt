@@ -11,19 +11,16 @@ use Rattle.valuation.proofs.until_reaches.Tie as tie
 use Rattle.valuation.proofs.until_reaches.Reads as reads
 use Rattle.valuation.proofs.until_reaches.Lts as lts
 
--- src/lib.rt:129:9
 returns : tie.Need-returns
 returns c w α β lower upper t k s near pos small A B =
     let x = c .before .args in
     sym (lt-leb k (rankOf (until three w α β lower upper t)) (misses w α β t k lower upper (x .begin) (x .stop) pos small (omega arith) A B (λ h. omega arith)))
 
--- src/lib.rt:132:9
 returns-2 : tie.Need-returns-2
 returns-2 c w α β lower upper t k s near pos small A B =
     let x = c .before .before .args in
     sym (lt-leb k (rankOf (until three w α β lower upper t)) (misses w α β t k lower upper (x .begin) (x .stop) pos small (omega arith) A B (λ h. omega arith)))
 
--- src/lib.rt:125:1
 returns-3 : tie.Need-returns-3
 returns-3 c w α β lower upper t k s near pos small A B =
     let x = c .before .before .args in

@@ -10,19 +10,15 @@ use Rattle.valuation.proofs.until_value.Lts as lts
 use Rattle.valuation.proofs.code.Reads as code-reads
 use Rattle.valuation.proofs.until_reaches.Reads as until-reaches-reads
 
--- src/lib.rt:141:9
 until-reaches-requires : tie.Need-until-reaches-requires
 until-reaches-requires c κs = search needs
 
--- src/lib.rt:142:9
 until-reaches-requires-2 : tie.Need-until-reaches-requires-2
 until-reaches-requires-2 c κs = search needs
 
--- src/lib.rt:143:5
 code-requires : tie.Need-code-requires
 code-requires c κs = search needs
 
--- src/lib.rt:138:1
 returns : tie.Need-returns
 returns c w α β lower upper t s near A B =
     c .code .ensures (until three w α β lower upper t)

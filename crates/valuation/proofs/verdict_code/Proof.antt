@@ -6,11 +6,9 @@ use Rattle.valuation.proofs.verdict_code.Tie as tie
 use Rattle.valuation.proofs.verdict_code.Reads as reads
 use Rattle.valuation.proofs.verdict_code.Lts as lts
 
--- src/lib.rt:338:1
 returns : tie.Need-returns
 returns c = rw (eq-eqb (c .before .args .point) 1 (c .if1 .taken)) refl
 
--- src/lib.rt:338:1
 returns-2 : tie.Need-returns-2
 returns-2 c = rw (ne-eqb (c .before .args .point) 1 (c .if1 .left)) refl
 

@@ -27,48 +27,38 @@ Inv-loop points row verdicts₀ total₀ t₀ verdicts total t =
 abbrev μ-loop : tie.MeasureT-loop
 μ-loop points row verdicts₀ total₀ t₀ verdicts total t = length verdicts₀ - t
 
--- src/lib.rt:358:5
 loop-holds : tie.Need-loop-holds Inv-loop μ-loop
 unfolding standing
 loop-holds c =
     let x = c .before .before .before .args in
     (omega arith, refl, untouched (λ s. verdict-code (getD (now (x .points)) s 0) (getD (now (x .row)) s 0)) 0 (now (x .verdicts)), refl)
 
--- src/lib.rt:359:36
 shared-slice-read-verdict-code : tie.Need-shared-slice-read-verdict-code Inv-loop μ-loop
 shared-slice-read-verdict-code c = omega arith
 
--- src/lib.rt:359:47
 shared-slice-read-verdict-code-2 : tie.Need-shared-slice-read-verdict-code-2 Inv-loop μ-loop
 shared-slice-read-verdict-code-2 c = omega arith
 
--- src/lib.rt:359:13
 verdict-code-requires : tie.Need-verdict-code-requires Inv-loop μ-loop
 verdict-code-requires c κs = omega arith
 
--- src/lib.rt:360:9
 slice-write-verdicts : tie.Need-slice-write-verdicts Inv-loop μ-loop
 slice-write-verdicts c = search needs
 
--- src/lib.rt:361:18
 stands-requires : tie.Need-stands-requires Inv-loop μ-loop
 stands-requires c κs = omega arith
 
--- src/lib.rt:361:9
 add-total : tie.Need-add-total Inv-loop μ-loop
 add-total c =
     let l = c .before .before .before .before .before in
     omega (arith, l .loop .inv .3, standing-le (take (l .loop .t) (l .loop .verdicts)), length-take (l .loop .t) (l .loop .verdicts), at-most-one (c .before .verdict-code .result), c .stands .ensures)
 
--- src/lib.rt:362:9
 add-t : tie.Need-add-t Inv-loop μ-loop
 add-t c = omega arith
 
--- src/lib.rt:358:5
 loop-less : tie.Need-loop-less Inv-loop μ-loop
 loop-less c = omega arith
 
--- src/lib.rt:358:5
 loop-again : tie.Need-loop-again Inv-loop μ-loop
 loop-again c =
     let l = c .before .before .before .before .before in
@@ -78,11 +68,9 @@ loop-again c =
     let next = one-more (λ s. verdict-code (getD (now (x .points)) s 0) (getD (now (x .row)) s 0)) 0 t (now (x .verdicts)) (l .loop .verdicts) v (l .loop .inv .2) (omega arith) (omega arith) (c .before .verdict-code .ensures) in
     (omega arith, next .long, next, ap₂ (λ (a b : ℕ). a + b) (l .loop .inv .3) (c .stands .ensures) ∙ sym (standing-more (l .loop .verdicts) t v (omega arith)))
 
--- src/lib.rt:352:1
 same-length : tie.Need-same-length Inv-loop μ-loop
 same-length c = search needs
 
--- src/lib.rt:352:1
 returns : tie.Need-returns Inv-loop μ-loop
 returns c =
     let l = c .before in

@@ -16,39 +16,30 @@ Inv-loop line points facts sheet m first second row₀ t₀ row t = t ≤ length
 abbrev μ-loop : tie.MeasureT-loop
 μ-loop line points facts sheet m first second row₀ t₀ row t = length points - t
 
--- src/main.rt:306:9
 run-requires : tie.Need-run-requires Inv-loop μ-loop
 run-requires c κs = search needs
 
--- src/main.rt:307:9
 run-requires-2 : tie.Need-run-requires-2 Inv-loop μ-loop
 run-requires-2 c κs = search needs
 
--- src/main.rt:310:5
 loop-holds : tie.Need-loop-holds Inv-loop μ-loop
 loop-holds c = search needs
 
--- src/main.rt:311:18
 defined-at-requires : tie.Need-defined-at-requires Inv-loop μ-loop
 defined-at-requires c κs = search needs
 
--- src/main.rt:311:9
 array-write-row : tie.Need-array-write-row Inv-loop μ-loop
 array-write-row c = search needs
 
--- src/main.rt:312:9
 add-t : tie.Need-add-t Inv-loop μ-loop
 add-t c = search needs
 
--- src/main.rt:310:5
 loop-less : tie.Need-loop-less Inv-loop μ-loop
 loop-less c = search needs
 
--- src/main.rt:310:5
 loop-again : tie.Need-loop-again Inv-loop μ-loop
 loop-again c = search needs
 
--- src/main.rt:302:1
 returns : tie.Need-returns Inv-loop μ-loop
 returns c = search needs
 

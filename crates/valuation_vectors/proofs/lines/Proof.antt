@@ -19,75 +19,57 @@ Inv-loop points facts seed m sheet₀ other₀ x₀ n₀ k₀ sheet other x n k 
 abbrev μ-loop : tie.MeasureT-loop
 μ-loop points facts seed m sheet₀ other₀ x₀ n₀ k₀ sheet other x n k = 20 - k
 
--- src/main.rt:416:5
 loop-holds : tie.Need-loop-holds Inv-loop μ-loop
 loop-holds c = search needs
 
--- src/main.rt:417:9
 next-requires : tie.Need-next-requires Inv-loop μ-loop
 next-requires c κs = search needs
 
--- src/main.rt:418:13
 line-of-requires : tie.Need-line-of-requires Inv-loop μ-loop
 line-of-requires c κs = search needs
 
--- src/main.rt:419:46
 slice-aggregate-compare : tie.Need-slice-aggregate-compare Inv-loop μ-loop
 slice-aggregate-compare c = search needs
 
--- src/main.rt:419:58
 slice-aggregate-compare-2 : tie.Need-slice-aggregate-compare-2 Inv-loop μ-loop
 slice-aggregate-compare-2 c = search needs
 
--- src/main.rt:419:14
 compare-requires : tie.Need-compare-requires Inv-loop μ-loop
 compare-requires c κs = search needs
 
--- src/main.rt:419:9
 add-n : tie.Need-add-n Inv-loop μ-loop
 add-n c = search needs
 
--- src/main.rt:420:9
 add-k : tie.Need-add-k Inv-loop μ-loop
 add-k c = search needs
 
--- src/main.rt:416:5
 loop-less : tie.Need-loop-less Inv-loop μ-loop
 loop-less c = search needs
 
--- src/main.rt:416:5
 loop-again : tie.Need-loop-again Inv-loop μ-loop
 loop-again c = search needs
 
--- src/main.rt:423:19
 add-end : tie.Need-add-end Inv-loop μ-loop
 add-end c = search needs
 
--- src/main.rt:424:18
 line-of-requires-2 : tie.Need-line-of-requires-2 Inv-loop μ-loop
 line-of-requires-2 c κs = search needs
 
--- src/main.rt:424:37
 sub-show-row : tie.Need-sub-show-row Inv-loop μ-loop
 sub-show-row c = search needs
 
--- src/main.rt:424:37
 part-show-row-start : tie.Need-part-show-row-start Inv-loop μ-loop
 part-show-row-start c = search needs
 
--- src/main.rt:424:37
 part-show-row-end : tie.Need-part-show-row-end Inv-loop μ-loop
 part-show-row-end c = search needs
 
--- src/main.rt:424:9
 show-row-requires : tie.Need-show-row-requires Inv-loop μ-loop
 show-row-requires c κs = search needs
 
--- src/main.rt:406:1
 returns : tie.Need-returns Inv-loop μ-loop
 returns c = search needs
 
--- src/main.rt:406:1
 returns-2 : tie.Need-returns-2 Inv-loop μ-loop
 returns-2 c = search needs
 

@@ -18,59 +18,45 @@ Inv-loop n₀ number₀ t3 t4 t5 n number = (number ≤ 60) × (n ≤ 20480 * nu
 abbrev μ-loop : tie.MeasureT-loop
 μ-loop n₀ number₀ t3 t4 t5 n number = 60 - number
 
--- src/main.rt:440:5
 loop-holds : tie.Need-loop-holds Inv-loop μ-loop
 loop-holds c = search needs
 
--- src/main.rt:441:14
 batch-requires : tie.Need-batch-requires Inv-loop μ-loop
 batch-requires c κs = search needs
 
--- src/main.rt:441:9
 add-n : tie.Need-add-n Inv-loop μ-loop
 add-n c = search needs
 
--- src/main.rt:442:9
 add-number : tie.Need-add-number Inv-loop μ-loop
 add-number c = search needs
 
--- src/main.rt:440:5
 loop-less : tie.Need-loop-less Inv-loop μ-loop
 loop-less c = search needs
 
--- src/main.rt:440:5
 loop-again : tie.Need-loop-again Inv-loop μ-loop
 loop-again c = search needs
 
--- src/main.rt:444:10
 slice-aggregate-show : tie.Need-slice-aggregate-show Inv-loop μ-loop
 slice-aggregate-show c = search needs
 
--- src/main.rt:444:20
 mul-show : tie.Need-mul-show Inv-loop μ-loop
 mul-show c = search needs
 
--- src/main.rt:444:5
 show-requires : tie.Need-show-requires Inv-loop μ-loop
 show-requires c κs = search needs
 
--- src/main.rt:445:10
 slice-aggregate-show-2 : tie.Need-slice-aggregate-show-2 Inv-loop μ-loop
 slice-aggregate-show-2 c = search needs
 
--- src/main.rt:445:5
 show-requires-2 : tie.Need-show-requires-2 Inv-loop μ-loop
 show-requires-2 c κs = search needs
 
--- src/main.rt:446:22
 slice-aggregate-write-all : tie.Need-slice-aggregate-write-all Inv-loop μ-loop
 slice-aggregate-write-all c = search needs
 
--- src/main.rt:446:5
 write-all-requires : tie.Need-write-all-requires Inv-loop μ-loop
 write-all-requires c κs = search needs
 
--- src/main.rt:437:1
 returns : tie.Need-returns Inv-loop μ-loop
 returns c = search needs
 

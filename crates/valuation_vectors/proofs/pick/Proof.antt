@@ -12,11 +12,9 @@ use Rattle.valuation_vectors.proofs.pick.Tie as tie
 use Rattle.valuation_vectors.proofs.pick.Reads as reads
 use Rattle.valuation_vectors.proofs.pick.Lts as lts
 
--- src/main.rt:130:6
 rem-result : tie.Need-rem-result
 rem-result c = search needs
 
--- src/main.rt:126:1
 returns : tie.Need-returns
 returns c = mod-lt (c .args .x / 65536) (omega arith)
 

@@ -14,35 +14,27 @@ Inv-loop cells₀ row t₀ cells t = (t ≤ length cells₀) × (length cells �
 abbrev μ-loop : tie.MeasureT-loop
 μ-loop cells₀ row t₀ cells t = length cells₀ - t
 
--- src/main.rt:321:5
 loop-holds : tie.Need-loop-holds Inv-loop μ-loop
 loop-holds c = search needs
 
--- src/main.rt:322:20
 element-copy-out-cells : tie.Need-element-copy-out-cells Inv-loop μ-loop
 element-copy-out-cells c = search needs
 
--- src/main.rt:322:9
 slice-write-cells : tie.Need-slice-write-cells Inv-loop μ-loop
 slice-write-cells c = search needs
 
--- src/main.rt:323:9
 add-t : tie.Need-add-t Inv-loop μ-loop
 add-t c = search needs
 
--- src/main.rt:321:5
 loop-less : tie.Need-loop-less Inv-loop μ-loop
 loop-less c = search needs
 
--- src/main.rt:321:5
 loop-again : tie.Need-loop-again Inv-loop μ-loop
 loop-again c = search needs
 
--- src/main.rt:317:1
 same-length : tie.Need-same-length Inv-loop μ-loop
 same-length c = search needs
 
--- src/main.rt:317:1
 returns : tie.Need-returns Inv-loop μ-loop
 returns c = search needs
 

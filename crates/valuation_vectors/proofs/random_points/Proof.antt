@@ -19,43 +19,33 @@ Inv-loop seed points₀ x₀ t₀ points x t = (t ≤ 1024) × (length points �
 abbrev μ-loop : tie.MeasureT-loop
 μ-loop seed points₀ x₀ t₀ points x t = 1024 - t
 
--- src/main.rt:229:5
 loop-holds : tie.Need-loop-holds Inv-loop μ-loop
 loop-holds c = (omega arith, length-replicate {A = ℕ} 1024 0)
 
--- src/main.rt:230:9
 next-requires : tie.Need-next-requires Inv-loop μ-loop
 next-requires c κs = search needs
 
--- src/main.rt:231:23
 pick-requires : tie.Need-pick-requires Inv-loop μ-loop
 pick-requires c κs = search needs
 
--- src/main.rt:231:23
 add-points : tie.Need-add-points Inv-loop μ-loop
 add-points c = search needs
 
--- src/main.rt:231:21
 cast-points : tie.Need-cast-points Inv-loop μ-loop
 cast-points c = search needs
 
--- src/main.rt:231:9
 array-write-points : tie.Need-array-write-points Inv-loop μ-loop
 array-write-points c = search needs
 
--- src/main.rt:232:9
 add-t : tie.Need-add-t Inv-loop μ-loop
 add-t c = search needs
 
--- src/main.rt:229:5
 loop-less : tie.Need-loop-less Inv-loop μ-loop
 loop-less c = search needs
 
--- src/main.rt:229:5
 loop-again : tie.Need-loop-again Inv-loop μ-loop
 loop-again c = search needs
 
--- src/main.rt:223:1
 returns : tie.Need-returns Inv-loop μ-loop
 returns c = search needs
 

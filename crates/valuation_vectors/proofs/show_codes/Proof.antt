@@ -15,31 +15,24 @@ Inv-loop row t₀ t = t ≤ length row
 abbrev μ-loop : tie.MeasureT-loop
 μ-loop row t₀ t = length row - t
 
--- src/main.rt:363:5
 loop-holds : tie.Need-loop-holds Inv-loop μ-loop
 loop-holds c = search needs
 
--- src/main.rt:364:19
 shared-slice-read-show-code : tie.Need-shared-slice-read-show-code Inv-loop μ-loop
 shared-slice-read-show-code c = search needs
 
--- src/main.rt:364:9
 show-code-requires : tie.Need-show-code-requires Inv-loop μ-loop
 show-code-requires c κs = search needs
 
--- src/main.rt:365:9
 add-t : tie.Need-add-t Inv-loop μ-loop
 add-t c = search needs
 
--- src/main.rt:363:5
 loop-less : tie.Need-loop-less Inv-loop μ-loop
 loop-less c = search needs
 
--- src/main.rt:363:5
 loop-again : tie.Need-loop-again Inv-loop μ-loop
 loop-again c = search needs
 
--- src/main.rt:361:1
 returns : tie.Need-returns Inv-loop μ-loop
 returns c = search needs
 
