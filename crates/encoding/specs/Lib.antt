@@ -1,2 +1,4 @@
 -- What the two formats share.
 pub mod Fields
+pub mod Layout
+pub mod Laws

@@ -4,8 +4,8 @@
 // most 2), minutes (2 bytes), the message's length and the message, the sequence numbers (2 bytes each), the facts (4 bytes each).
 // A line that starts with '#' says what the next ones are, and is printed as it is.
 use message::Event;
-use policy::Answer;
 use policy::Sizes;
+use refusal::Answer;
 use refusal::Refusal;
 ghost use Prim.Native.Nat.{suc, _+_, _*_, _≤_, _<_};
 ghost use mathlib.Core.Path.{_≡_};

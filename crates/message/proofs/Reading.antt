@@ -9,7 +9,7 @@ use lib.Dec.{ltb, leb}
 use lib.ListN.{length}
 use borrow.Author.Tests.{le-leb, lt-leb, leb-true, leb-false}
 use Rattle.encoding.specs.Fields.{has, size, longOf, field8, field32, written}
-use Rattle.policy.specs.declared.Answer.the-variants.{Accepted}
+use Rattle.refusal.specs.declared.Answer.the-variants.{Accepted}
 use Rattle.message.specs.declared.Fields.{Fields}
 use Rattle.message.specs.declared.Event.{Event}
 use Rattle.message.specs.declared.Length.{Length}

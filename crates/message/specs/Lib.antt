@@ -1,5 +1,6 @@
 -- The message: its format, what it fixes, and the laws of what is read.
 pub mod Format
+pub mod Encoded
 pub mod Fixes
 pub mod Proper
 pub mod Laws

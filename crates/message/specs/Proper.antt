@@ -7,7 +7,7 @@ use mathlib.Core.List.{List}
 use lib.ListN.{length}
 use Rattle.refusal.specs.declared.Refusal.the-variants.{TruncatedMessage, BadMessage}
 use Rattle.policy.specs.declared.Sizes.{Sizes}
-use Rattle.policy.specs.declared.Answer.the-variants.{Accepted, Refused}
+use Rattle.refusal.specs.declared.Answer.the-variants.{Accepted, Refused}
 use Rattle.message.specs.Format.{lengthOf, goodMessage, answerOf}
 
 -- 7: it ends early, or bytes follow

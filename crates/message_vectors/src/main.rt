@@ -4,8 +4,8 @@
 // A line that starts with '#' says what the next ones are, and is printed as it is.
 use message::Decoded;
 use message::Event;
-use policy::Answer;
 use policy::Sizes;
+use refusal::Answer;
 use refusal::Refusal;
 ghost use Prim.Native.Nat.{_+_, _≤_, _<_};
 ghost use lib.ListN.{length};

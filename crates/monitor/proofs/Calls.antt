@@ -7,8 +7,8 @@ use Rattle.refusal.specs.declared.Refusal.{Refusal}
 use Rattle.refusal.specs.declared.Refusal.the-variants.{BufferSize, CorruptKnowledge, Conflict}
 use Rattle.policy.specs.declared.Sizes.{Sizes}
 use Rattle.policy.specs.declared.Policy.{Policy}
-use Rattle.policy.specs.declared.Answer.{Answer as Checked}
-use Rattle.policy.specs.declared.Answer.the-variants as C
+use Rattle.refusal.specs.declared.Answer.{Answer as Checked}
+use Rattle.refusal.specs.declared.Answer.the-variants as C
 use Rattle.policy.specs.Format.{answerOf, policyOf}
 use Rattle.policy.specs.Proper.{Proper}
 use Rattle.message.specs.declared.Event.{Event}

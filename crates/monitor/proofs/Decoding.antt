@@ -6,8 +6,8 @@ use Prim.Native.Nat.{ℕ}
 use Rattle.refusal.specs.declared.Refusal.{Refusal}
 use Rattle.policy.specs.declared.Policy.{Policy}
 use Rattle.policy.specs.declared.Decoded.{Decoded}
-use Rattle.policy.specs.declared.Answer.{Answer as Checked}
-use Rattle.policy.specs.declared.Answer.the-variants as C
+use Rattle.refusal.specs.declared.Answer.{Answer as Checked}
+use Rattle.refusal.specs.declared.Answer.the-variants as C
 use Rattle.policy.specs.Format.{answerOf, policyOf, decodeOf}
 use Rattle.policy.specs.Proper.{Proper}
 use Rattle.policy.specs.Laws.{accepted, decoded, decoded-answer}

@@ -12,8 +12,8 @@ use Rattle.refusal.specs.declared.Refusal.{Refusal}
 use Rattle.refusal.specs.declared.Refusal.the-variants.{TruncatedPolicy, BadHeading, BadSubformula, RuleCount, BufferSize, CorruptKnowledge, TruncatedMessage, BadMessage, Conflict, OutOfRange}
 use Rattle.refusal.specs.Numbers.{numberOf}
 use Rattle.policy.specs.declared.Sizes.{Sizes}
-use Rattle.policy.specs.declared.Answer.{Answer as Checked}
-use Rattle.policy.specs.declared.Answer.the-variants as C
+use Rattle.refusal.specs.declared.Answer.{Answer as Checked}
+use Rattle.refusal.specs.declared.Answer.the-variants as C
 use Rattle.policy.specs.Format.{check, andThen, within, fieldsAt, goodLine, offset, rulesUpTo, headingAnswer, lineAnswer, linesAnswer, closingAnswer, countOf, answerOf as policy-answer, policyOf}
 use Rattle.policy.specs.Proper.{Causes as Policy-reader-causes}
 use Rattle.message.specs.Format.{lengthOf, goodMessage, answerOf as message-answer}

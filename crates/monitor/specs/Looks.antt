@@ -11,8 +11,8 @@ use Rattle.refusal.specs.declared.Refusal.{Refusal}
 use Rattle.refusal.specs.declared.Refusal.the-variants.{BufferSize, OutOfRange}
 use Rattle.refusal.specs.Numbers.{numberOf}
 use Rattle.mtl.specs.Folds.{both, pair}
-use Rattle.policy.specs.declared.Answer.{Answer as Checked}
-use Rattle.policy.specs.declared.Answer.the-variants as C
+use Rattle.refusal.specs.declared.Answer.{Answer as Checked}
+use Rattle.refusal.specs.declared.Answer.the-variants as C
 use Rattle.policy.specs.Format.{answerOf as policy-answer, policyOf}
 use Rattle.policy.specs.Proper.{Causes as Policy-reader-causes}
 use Rattle.monitor.specs.declared.Verdict.{Verdict}

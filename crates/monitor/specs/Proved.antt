@@ -7,8 +7,8 @@ use mathlib.Core.Logic.{_⊎_, inl, inr, _↔_, _≢_}
 use mathlib.Core.List.{List, _++_, map, List·Memᴰ}
 use Rattle.mtl.specs.Folds.{both}
 use Rattle.refusal.specs.declared.Refusal.the-variants.{BufferSize, CorruptKnowledge}
-use Rattle.policy.specs.declared.Answer.{Answer as Checked}
-use Rattle.policy.specs.declared.Answer.the-variants as C
+use Rattle.refusal.specs.declared.Answer.{Answer as Checked}
+use Rattle.refusal.specs.declared.Answer.the-variants as C
 use Rattle.policy.specs.Format.{answerOf as policy-answer, policyOf}
 use Rattle.policy.specs.Proper.{Proper}
 use Rattle.policy.specs.Laws.{accepted as policy-proper, causes as policy-causes}

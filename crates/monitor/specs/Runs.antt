@@ -14,8 +14,8 @@ use Rattle.mtl.specs.Folds.{both, pair}
 use Rattle.mtl.specs.Knowing.{Decides, open3, is-true, is-false, reading-decides}
 use Rattle.mtl.specs.Textbook.{Holds, textbook}
 use Rattle.policy.specs.declared.Policy.{Policy}
-use Rattle.policy.specs.declared.Answer.{Answer as Checked}
-use Rattle.policy.specs.declared.Answer.the-variants as C
+use Rattle.refusal.specs.declared.Answer.{Answer as Checked}
+use Rattle.refusal.specs.declared.Answer.the-variants as C
 use Rattle.policy.specs.Format.{answerOf as policy-answer, policyOf}
 use Rattle.policy.specs.Proper.{Proper, formulaAt}
 use Rattle.message.specs.Format.{answerOf as message-answer}

@@ -8,8 +8,8 @@ use lib.ListN.{length, replicate}
 use Rattle.refusal.specs.declared.Refusal.{Refusal}
 use Rattle.refusal.specs.declared.Refusal.the-variants.{BufferSize, CorruptKnowledge, Conflict}
 use Rattle.policy.specs.declared.Policy.{Policy}
-use Rattle.policy.specs.declared.Answer.{Answer as Checked}
-use Rattle.policy.specs.declared.Answer.the-variants as C
+use Rattle.refusal.specs.declared.Answer.{Answer as Checked}
+use Rattle.refusal.specs.declared.Answer.the-variants as C
 use Rattle.policy.specs.Format.{answerOf as policy-answer, policyOf}
 use Rattle.message.specs.Format.{answerOf as message-answer}
 use Rattle.message.specs.Fixes.{Message, meaningOf}

@@ -73,8 +73,8 @@ pub fn lookup(policy: &[u8], verdicts: &[u8], rule: usize, minute: usize) -> Loo
     let decoded = policy::decode(policy);
     let answer = decoded.answer;
     match answer {
-        policy::Answer::Refused(r) => Look::Refused(r),
-        policy::Answer::Accepted => {
+        refusal::Answer::Refused(r) => Look::Refused(r),
+        refusal::Answer::Accepted => {
             let p = decoded.policy;
             verdict_at(p, verdicts, rule, minute)
         }
@@ -170,8 +170,8 @@ pub fn open(
     let decoded = policy::decode(policy);
     let answer = decoded.answer;
     match answer {
-        policy::Answer::Refused(r) => Answer::Refused(r),
-        policy::Answer::Accepted => {
+        refusal::Answer::Refused(r) => Answer::Refused(r),
+        refusal::Answer::Accepted => {
             let p = decoded.policy;
             if !fit(
                 p,
@@ -224,8 +224,8 @@ fn take_message(
     let decoded = message::decode(message, sizes);
     let answer = decoded.answer;
     match answer {
-        policy::Answer::Refused(r) => Answer::Refused(r),
-        policy::Answer::Accepted => {
+        refusal::Answer::Refused(r) => Answer::Refused(r),
+        refusal::Answer::Accepted => {
             let component = decoded.component;
             let event = decoded.event;
             if !knowledge::admits_message(sizes, numbers, facts, component, event) {
@@ -259,8 +259,8 @@ pub fn receive(
     let decoded = policy::decode(policy);
     let answer = decoded.answer;
     match answer {
-        policy::Answer::Refused(r) => Answer::Refused(r),
-        policy::Answer::Accepted => {
+        refusal::Answer::Refused(r) => Answer::Refused(r),
+        refusal::Answer::Accepted => {
             let p = decoded.policy;
             if !fit(
                 p,

@@ -8,8 +8,8 @@ use Rattle.policy.specs.declared.Sizes.{Sizes}
 use Rattle.policy.specs.declared.Subformula.{Subformula}
 use Rattle.policy.specs.declared.Decoded.{Decoded}
 use Rattle.policy.specs.declared.Scanned.{Scanned}
-use Rattle.policy.specs.declared.Answer.{Answer}
-use Rattle.policy.specs.declared.Answer.the-variants.{Accepted, Refused}
+use Rattle.refusal.specs.declared.Answer.{Answer}
+use Rattle.refusal.specs.declared.Answer.the-variants.{Accepted, Refused}
 use Rattle.policy.specs.Format.{sizesOf, countOf, rulesUpTo, subformulasOf, withAnswer, blank, headingAnswer, closingAnswer, answerOf, policyOf, decodeOf}
 use Rattle.policy.specs.Lines.{Scans}
 use Rattle.policy.specs.Answers.{after-heading}

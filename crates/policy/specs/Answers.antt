@@ -10,8 +10,8 @@ use lib.Dec.{leb}
 use lib.ListN.{length, getD}
 use Rattle.refusal.specs.declared.Refusal.{Refusal}
 use Rattle.refusal.specs.declared.Refusal.the-variants.{TruncatedPolicy, BadSubformula}
-use Rattle.policy.specs.declared.Answer.{Answer}
-use Rattle.policy.specs.declared.Answer.the-variants.{Accepted, Refused}
+use Rattle.refusal.specs.declared.Answer.{Answer}
+use Rattle.refusal.specs.declared.Answer.the-variants.{Accepted, Refused}
 use Rattle.policy.specs.Format.{check, andThen, countOf, rulesUpTo, fieldsAt, goodLine, headingAnswer, offset, lineAnswer, linesAnswer, closingAnswer, answerOf}
 
 pub passes : {b : Bool} (r : Refusal) (next : Answer) → b ≡ true → check b r next ≡ next

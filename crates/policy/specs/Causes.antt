@@ -13,8 +13,8 @@ use lib.ListN.{length, getD}
 use Rattle.encoding.specs.Fields.{wordOf}
 use Rattle.refusal.specs.declared.Refusal.{Refusal}
 use Rattle.refusal.specs.declared.Refusal.the-variants.{TruncatedPolicy, BadHeading, BadSubformula, RuleCount, BufferSize, CorruptKnowledge, TruncatedMessage, BadMessage, Conflict, OutOfRange}
-use Rattle.policy.specs.declared.Answer.{Answer}
-use Rattle.policy.specs.declared.Answer.the-variants.{Accepted, Refused}
+use Rattle.refusal.specs.declared.Answer.{Answer}
+use Rattle.refusal.specs.declared.Answer.the-variants.{Accepted, Refused}
 use Rattle.policy.specs.Format.{within, check, andThen, countOf, fieldsAt, goodLine, offset, rulesUpTo, headingAnswer, lineAnswer, linesAnswer, closingAnswer, answerOf}
 use Rattle.policy.specs.Proper.{Between, Headed, Fine-before, Cut, Misheaded, Misformed, Whole}
 use Rattle.policy.specs.Answers.{passes, fails, cut-line, bad-line, fine-line, next-line, first-refused, no-heading, after-length, after-heading}

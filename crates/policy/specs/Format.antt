@@ -14,8 +14,8 @@ use Rattle.policy.specs.declared.Subformula.{Subformula}
 use Rattle.policy.specs.declared.Policy.{Policy}
 use Rattle.policy.specs.declared.Fields.{Fields}
 use Rattle.policy.specs.declared.Decoded.{Decoded}
-use Rattle.policy.specs.declared.Answer.{Answer}
-use Rattle.policy.specs.declared.Answer.the-variants.{Accepted, Refused}
+use Rattle.refusal.specs.declared.Answer.{Answer}
+use Rattle.refusal.specs.declared.Answer.the-variants.{Accepted, Refused}
 
 -- ---- one line
 

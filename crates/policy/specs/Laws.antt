@@ -15,7 +15,7 @@ use Rattle.mtl.specs.declared.Formula.the-variants as F
 use Rattle.mtl.specs.Syntax.{Operands, Proposes, Bounded}
 use Rattle.policy.specs.declared.Subformula.{Subformula}
 use Rattle.policy.specs.declared.Fields.{Fields}
-use Rattle.policy.specs.declared.Answer.the-variants.{Accepted, Refused}
+use Rattle.refusal.specs.declared.Answer.the-variants.{Accepted, Refused}
 use Rattle.policy.specs.Format.{lineLength, fieldsAt, allowed, operandsGood, goodLine, meaning, formulaOf, subformulaOf, subformulaAt, countOf, offset, withAnswer, answerOf, policyOf, decodeOf}
 use Rattle.policy.specs.Proper.{Proper, Causes, formulaAt}
 use Rattle.policy.specs.Ranges.{both-true}

@@ -3,7 +3,7 @@ use Prim.Native.Nat.{ℕ}
 use mathlib.Core.Path.{_≡_}
 use mathlib.Core.List.{List}
 use Rattle.policy.specs.declared.Scanned.{Scanned}
-use Rattle.policy.specs.declared.Answer.the-variants.{Accepted}
+use Rattle.refusal.specs.declared.Answer.the-variants.{Accepted}
 use Rattle.policy.specs.Format.{offset, linesAnswer, subformulasOf, rulesUpTo}
 
 -- the answer of the first n lines, and where they are accepted the place after them, their rules and the table

@@ -10,7 +10,7 @@ use Rattle.mtl.specs.declared.Formula.{Formula}
 use Rattle.mtl.specs.Syntax.{Earlier, Proposes, Bounded}
 use Rattle.refusal.specs.declared.Refusal.the-variants.{TruncatedPolicy, BadHeading, BadSubformula, RuleCount}
 use Rattle.policy.specs.declared.Policy.{Policy}
-use Rattle.policy.specs.declared.Answer.the-variants.{Accepted, Refused}
+use Rattle.refusal.specs.declared.Answer.the-variants.{Accepted, Refused}
 use Rattle.policy.specs.Format.{noLine, ruleLines, goodLine, fieldsAt, countOf, offset, rulesUpTo, answerOf}
 
 -- the meaning of line i

@@ -6,6 +6,7 @@ use encoding::read16;
 use encoding::size_of;
 use encoding::word;
 use mtl::Formula;
+use refusal::Answer;
 use refusal::Refusal;
 ghost use mathlib.Core.Path.{_≡_};
 ghost use Prim.Native.Nat.{_+_, _/_, _%_, _≤_, _<_};
@@ -36,11 +37,6 @@ pub struct Policy {
     // how many of them are rules
     pub rules: usize,
     pub subformulas: [Subformula; 64],
-}
-
-pub enum Answer {
-    Accepted,
-    Refused(Refusal),
 }
 
 // The answer, and beside it the policy that was read; a refusal has a blank one.

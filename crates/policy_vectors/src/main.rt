@@ -1,7 +1,7 @@
 // Prints the reader's answer for policies (01: cards) at the edges of the format: accepted with propositions, components, minutes,
 // lines and rules, or refused with number and place.
-use policy::Answer;
 use policy::Policy;
+use refusal::Answer;
 use refusal::Refusal;
 ghost use mathlib.Core.Path.{_≡_};
 ghost use Prim.Native.Nat.{_+_, _≤_, _<_};

@@ -1,2 +1,3 @@
--- The numbers and places of the refusals.
 pub mod Numbers
+pub mod Checks
+pub mod Laws

@@ -26,6 +26,12 @@ pub enum Refusal {
     OutOfRange,
 }
 
+// What a check answers, or a call's checks one after another: they let it pass, or the first that fails refuses it.
+pub enum Answer {
+    Accepted,
+    Refused(Refusal),
+}
+
 // The number that a refusal carries.
 pub fn number(r: Refusal) -> u8
     ensures { λ n. ⌜ n ≡ numberOf r ⌝ }

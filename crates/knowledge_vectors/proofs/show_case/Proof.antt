@@ -6,7 +6,7 @@ use Prim.Native.Nat.{ℕ}
 use denote.Ref.{now}
 use borrow.Author.Tests.{not-false}
 use Rattle.policy.specs.declared.Sizes.{Sizes}
-use Rattle.policy.specs.declared.Answer.the-variants.{Accepted}
+use Rattle.refusal.specs.declared.Answer.the-variants.{Accepted}
 use Rattle.message.specs.declared.Decoded.{Decoded}
 use Rattle.message.specs.Format.{decodeOf}
 use Rattle.message.specs.Fixes.{Fits, Well-formed}
