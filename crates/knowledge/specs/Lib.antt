@@ -6,6 +6,7 @@ pub mod Laws
 pub mod Store
 pub mod Witness
 pub mod Conflict
+pub mod Window
 pub mod Worlds
 pub mod Run
 pub mod Runs

@@ -74,6 +74,8 @@ pub record Pins : Type 0 where
   -- every subformula is unknown from M on, false ones too, and so is e
   pub until-past : read (Until 0 3 1 1) 3 busy never never ≡ unknown
   pub until-past-point : read (Until 0 0 1 1) 3 busy never never ≡ unknown
+  -- though it had a value of its own there
+  pub until-past-none : read (Until 0 0 1 1) 3 (true3 ∷ true3 ∷ true3 ∷ true3 ∷ false3 ∷ []) never never ≡ unknown
   -- a proposition that is not known is unknown
   pub missing : read (Or 1 1) 1 busy (row true3 unknown true3 true3) never ≡ unknown
   -- "p or not p" with p unknown stays unknown
@@ -101,6 +103,7 @@ pins = record {
   since-no-point = refl;
   until-past = refl;
   until-past-point = refl;
+  until-past-none = refl;
   missing = refl;
   excluded-middle = refl;
 }
