@@ -23,7 +23,7 @@ use Rattle.valuation.specs.Sheets.{valuation-of, verdicts-of, standing}
 use Rattle.monitor.specs.declared.Answer.{Answer}
 use Rattle.monitor.specs.declared.Answer.the-variants.{Received}
 use Rattle.monitor.specs.State.{State, Outcome, lent, outcome, Sized, opened, settle}
-use Rattle.monitor.specs.Invariant.{fresh-sound, sheet-lengths, long-of}
+use Rattle.monitor.specs.Laws.{fresh-sound, sheet-lengths, long-of}
 
 pub limits : (p : Policy) → Proper p → Limits (p .sizes)
 limits p z = record { propositions-most = z .propositions .high; minutes-most = z .minutes .high }

@@ -3,7 +3,7 @@
 use mathlib.Core.Path.{sym, _∙_}
 use borrow.Author.Tests.{not-true, not-false}
 use Rattle.monitor.specs.State.{lent}
-use Rattle.monitor.specs.Runs.{sized-law}
+use Rattle.monitor.specs.Laws.{sized-law}
 use Rattle.monitor.proofs.Decoding.{answered, read-policy}
 use Rattle.monitor.proofs.Calls.{open-refused, open-misfit, open-done}
 use borrow.Author.Needs.{needs}

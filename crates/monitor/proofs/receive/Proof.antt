@@ -4,8 +4,8 @@ use mathlib.Core.Path.{sym, _∙_}
 use borrow.Author.Tests.{not-true, not-false}
 use Rattle.knowledge.specs.Laws.{sound-law}
 use Rattle.monitor.specs.State.{lent}
-use Rattle.monitor.specs.Invariant.{long-of}
-use Rattle.monitor.specs.Runs.{sized-law}
+use Rattle.monitor.specs.Laws.{long-of}
+use Rattle.monitor.specs.Laws.{sized-law}
 use Rattle.monitor.proofs.Decoding.{answered, read-policy}
 use Rattle.monitor.proofs.Settling.{limits}
 use Rattle.monitor.proofs.Calls.{receive-refused, receive-misfit, receive-corrupt, receive-taken}

@@ -3,7 +3,7 @@
 use mathlib.Core.Path.{sym, _∙_}
 use borrow.Author.Tests.{not-true, not-false}
 use Rattle.monitor.specs.State.{lent}
-use Rattle.monitor.specs.Invariant.{long-of}
+use Rattle.monitor.specs.Laws.{long-of}
 use Rattle.monitor.proofs.Settling.{limits}
 use Rattle.monitor.proofs.Calls.{hear, heard-fits, message-answered, message-refused, message-conflict, message-taken}
 use borrow.Author.Needs.{needs}

@@ -20,15 +20,16 @@ use Rattle.knowledge.specs.Knowledge.{Sized as Long, Knowledge, noted, valued, 
 use Rattle.knowledge.specs.Laws.{Limits, Free, free-law}
 use Rattle.knowledge.specs.Store.{Fact, number-hit, number-either, fact-hit, fact-cases}
 use Rattle.valuation.specs.Sheets.{valuation-of, verdicts-of, standing}
 use Rattle.monitor.specs.declared.Answer.{Answer}
 use Rattle.monitor.specs.declared.Answer.the-variants.{Done, Received, Refused}
 use Rattle.monitor.specs.State.{State, Outcome, sized, opened, settle, guard, afterwards, open-state, receive, Receive, run, after, Taken, accepted-from, accepted}
 use Rattle.monitor.specs.Demands.{sizesOf, shown, Plain, Passed, Demand-1, Gains, Demand-2, Sends, Same, Demand-3}
-use Rattle.monitor.specs.Invariant.{Kept-up, long-of}
-use Rattle.monitor.specs.Keeping.{sheets-over, is-over, same-state}
-use Rattle.monitor.specs.Runs.{accept-law, from-open, start, stand, truth, all-up, all-taken}
-use Rattle.monitor.specs.Causes.{opening-causes, take-causes}
-use Rattle.monitor.specs.Looks.{look-causes}
+use Rattle.demands.specs.Invariant.{Kept-up}
+use Rattle.monitor.specs.Laws.{long-of}
+use Rattle.demands.specs.Keeping.{sheets-over, is-over, same-state}
+use Rattle.demands.specs.Runs.{accept-law, from-open, start, stand, truth, all-up, all-taken}
+use Rattle.demands.specs.Causes.{opening-causes, take-causes}
+use Rattle.demands.specs.Looks.{look-causes}
 
 -- ---- what an accepted card gives
 

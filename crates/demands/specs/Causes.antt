@@ -22,12 +22,12 @@ use Rattle.message.specs.Proper.{Causes as Message-reader-causes}
 use Rattle.knowledge.specs.Knowledge.{Sound, sound, admits}
 use Rattle.knowledge.specs.Laws.{Limits, sound-law}
 use Rattle.knowledge.specs.Conflict.{admits-law}
 use Rattle.monitor.specs.declared.Answer.{Answer}
 use Rattle.monitor.specs.declared.Answer.the-variants.{Done, Received, Refused}
 use Rattle.monitor.specs.State.{State, Outcome, Sized, sized, opened, settle, refused, guard, afterwards, open-state, receive}
 use Rattle.monitor.specs.Demands.{sizesOf, Some-trace, Policy-causes, Policy-passed, Opening-causes, Passed, Take-causes}
-use Rattle.monitor.specs.Invariant.{long-of}
-use Rattle.monitor.specs.Runs.{sized-law}
+use Rattle.monitor.specs.Laws.{long-of}
+use Rattle.monitor.specs.Laws.{sized-law}
 
 -- ---- which numbers the readers answer
 

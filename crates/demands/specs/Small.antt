@@ -13,10 +13,10 @@ use Rattle.message.specs.Format.{componentOf, minuteOf, numberOf, namedOf, pack
 use Rattle.message.specs.Fixes.{meaningOf}
 use Rattle.knowledge.specs.Knowledge.{noted, valued, number, is-point, is-none, sound, fresh, stored, free, admits}
 use Rattle.valuation.specs.Sheets.{valuation-of, verdicts-of, standing}
 use Rattle.monitor.specs.declared.Answer.{Answer}
 use Rattle.monitor.specs.declared.Answer.the-variants.{Done, Received, Refused}
 use Rattle.monitor.specs.State.{State, lent, sizes-fit, opened, open-state, receive, Receive, run, after}
-use Rattle.monitor.specs.Proved.{opens}
+use Rattle.demands.specs.Proved.{opens}
 
 -- "mark 0 at some time in the last 2 minutes"
 abbrev K : List ℕ

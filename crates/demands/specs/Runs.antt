@@ -26,26 +26,13 @@ use Rattle.knowledge.specs.Laws.{Limits, sound-law, point-law}
 use Rattle.knowledge.specs.Conflict.{admits-law}
 use Rattle.knowledge.specs.Worlds.{point-so, world-so}
 use Rattle.valuation.specs.Sheets.{value}
 use Rattle.monitor.specs.declared.Answer.{Answer}
 use Rattle.monitor.specs.declared.Answer.the-variants.{Done, Received, Refused}
 use Rattle.monitor.specs.State.{State, Outcome, Sized, sizes-fit, sized, opened, settle, take-message, afterwards, receive, Receive, run, Taken, took, accepted-from}
 use Rattle.monitor.specs.Demands.{shown, rule-line, sizesOf, Some-trace, Plain, kept, broken, Sends}
-use Rattle.monitor.specs.Invariant.{Kept-up, long-of, relabel, opened-up, next-up}
-use Rattle.monitor.specs.Keeping.{shown-at, verdict-point, marked, agrees-law, stands}
-
-pub sized-law : (p : Policy) (x : State) → (sized p x ≡ true) ↔ Sized p x
-unfolding sizes-fit
-sized-law p x = (there, back)
-  where
-    there : sized p x ≡ true → Sized p x
-    there e =
-        let f = both _ _ e in
-        let g = both _ _ (f .1) in
-        let h = both _ _ (g .1) in
-        record { numbers = eqb-true _ _ (f .0); facts = eqb-true _ _ (g .0); valuation = eqb-true _ _ (h .0); verdicts = eqb-true _ _ (h .1) }
-
-    back : Sized p x → sized p x ≡ true
-    back z = pair (eq-eqb _ _ (z .numbers)) (pair (eq-eqb _ _ (z .facts)) (pair (eq-eqb _ _ (z .valuation)) (eq-eqb _ _ (z .verdicts))))
+use Rattle.monitor.specs.Laws.{long-of, sized-law}
+use Rattle.demands.specs.Invariant.{Kept-up, relabel, opened-up, next-up}
+use Rattle.demands.specs.Keeping.{shown-at, verdict-point, marked, agrees-law, stands}
 
 -- a message adds nothing where it is not taken
 none-more : (Q : Message → Type 0) (y : Message) → Q y ⊎ List·Memᴰ y [] → Q y

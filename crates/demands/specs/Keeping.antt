@@ -22,9 +22,9 @@ use Rattle.knowledge.specs.Laws.{point-law}
 use Rattle.knowledge.specs.Store.{fact-law, fixed-place, fixed-fact}
 use Rattle.knowledge.specs.Worlds.{More, point-more, world-more}
 use Rattle.valuation.specs.Sheets.{value, verdict, valuation-of, verdicts-of}
 use Rattle.monitor.specs.State.{State, over}
 use Rattle.monitor.specs.Demands.{shown, rule-line, Sheets}
-use Rattle.monitor.specs.Invariant.{Kept-up}
+use Rattle.demands.specs.Invariant.{Kept-up}
 
 -- ---- the sheets
 

@@ -15,12 +15,12 @@ use Rattle.refusal.specs.declared.Answer.{Answer as Checked}
 use Rattle.refusal.specs.declared.Answer.the-variants as C
 use Rattle.policy.specs.Format.{answerOf as policy-answer, policyOf}
 use Rattle.policy.specs.Proper.{Causes as Policy-reader-causes}
 use Rattle.monitor.specs.declared.Verdict.{Verdict}
 use Rattle.monitor.specs.declared.Look.{Look}
 use Rattle.monitor.specs.declared.Look.the-variants as L
 use Rattle.monitor.specs.Lookup.{verdictOf, look-at, after-policy, lookupOf}
 use Rattle.monitor.specs.Demands.{sizesOf, Policy-passed, Look-causes}
-use Rattle.monitor.specs.Causes.{Numbered, policy-numbered, not-accepted}
+use Rattle.demands.specs.Causes.{Numbered, policy-numbered, not-accepted}
 
 -- an answer's number: a refusal's, and 0 for a verdict
 abbrev number : Look → ℕ

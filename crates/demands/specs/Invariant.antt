@@ -24,8 +24,9 @@ use Rattle.knowledge.specs.Knowledge.{Knowledge, none, noted, valued, number, S
 use Rattle.knowledge.specs.Laws.{Free, free-law, sound-law, point-law}
 use Rattle.knowledge.specs.Store.{Fact, fact-law, store-long, number-either, number-hit, facts-after, numbers-after}
 use Rattle.valuation.specs.Sheets.{value, verdict, valuation-of, verdicts-of}
 use Rattle.monitor.specs.State.{State, Sized, opened, over}
+use Rattle.monitor.specs.Laws.{long-of, sheet-lengths, fresh-number, fresh-known, fresh-first, fresh-facts, fresh-noted, fresh-sound, blank-sheet, lengths}
 use Rattle.monitor.specs.Demands.{rule-line, Exact}
 
 module _ (c : Policy) where
   pub record Kept-up (x : State) (Q : Message → Type 0) : Type 0 where
@@ -35,9 +36,6 @@ module _ (c : Policy) where
     pub small : (m : Message) → Q m → (p n : ℕ) → Fixes-number (m .event) p n → n < none
     pub valuation : x .valuation ≡ valuation-of c (x .known)
     pub verdicts : x .verdicts ≡ verdicts-of c (x .known)
-
-  pub long-of : (x : State) → Sized c x → Long (c .sizes) (x .known)
-  long-of x z = record { numbers = z .numbers; facts = z .facts }
 
   -- the same of messages that are the same
   pub relabel : {x : State} {Q R : Message → Type 0} → ((m : Message) → Q m → R m) → ((m : Message) → R m → Q m) → Kept-up x Q → Kept-up x R
@@ -74,105 +72,35 @@ module _ (c : Policy) where
 
   -- ---- the opening
 
-  fresh-number : (s p : ℕ) → s < c .sizes .components → p ≤ c .sizes .minutes → number (c .sizes) (fresh (c .sizes)) s p ≡ cond (eqb p 0) 0 none
-  unfolding fresh number
-  fresh-number s p l h =
-      table-at (c .sizes .components * suc (c .sizes .minutes)) _ (s * suc (c .sizes .minutes) + p) none (in-grid (c .sizes .components) (suc (c .sizes .minutes)) s p l (omega arith))
-      ∙ ap (λ (x : ℕ). cond (eqb x 0) 0 none) (place-of (suc (c .sizes .minutes)) s p (omega arith))
-
-  fresh-known : (s p n : ℕ) → s < c .sizes .components → p ≤ c .sizes .minutes → n < none → number (c .sizes) (fresh (c .sizes)) s p ≡ n → (p ≡ 0) × (n ≡ 0)
-  fresh-known s zero n l h b e = (refl, sym e ∙ fresh-number s 0 l h)
-  fresh-known s (suc p) n l h b e = absurd (omega (arith, sym e ∙ fresh-number s (suc p) l h ∙ ap (λ (x : Bool). cond x 0 none) (ne-eqb (suc p) 0 (omega arith))))
-
-  fresh-first : (s : ℕ) → s < c .sizes .components → number (c .sizes) (fresh (c .sizes)) s 0 ≡ 0
-  fresh-first s l = fresh-number s 0 l (omega arith)
-
-  fresh-facts : (i : ℕ) → getD (fresh (c .sizes) .facts) i 0 ≡ 0
-  unfolding fresh
-  fresh-facts i = go (decLt i (2 * c .sizes .minutes))
-    where
-      go : Dec (i < 2 * c .sizes .minutes) → _≡_ {A = ℕ} (getD (replicate (2 * c .sizes .minutes) 0) i 0) 0
-      go (yes h) = getD-replicate (2 * c .sizes .minutes) i 0 0 h
-      go (no n) = List·getD-eq-default (replicate (2 * c .sizes .minutes) 0) 0 (omega (arith, length-replicate {A = ℕ} (2 * c .sizes .minutes) 0))
-
-  fresh-noted : (i t : ℕ) → noted (fresh (c .sizes)) i t ≡ false
-  unfolding noted
-  fresh-noted i t = ap (λ (x : ℕ). bit x i) (fresh-facts (2 * t)) ∙ bit-of-zero i
-
-  fresh-valued : (i t : ℕ) → valued (fresh (c .sizes)) i t ≡ false
-  unfolding valued
-  fresh-valued i t = ap (λ (x : ℕ). bit x i) (fresh-facts (2 * t + 1)) ∙ bit-of-zero i
-
-  pub fresh-sound : Sound (c .sizes) (fresh (c .sizes))
-  fresh-sound = record {
-    first = fresh-first;
-    apart = λ s a b l h k x y. absurd (omega (arith, fresh-known s b (number (c .sizes) (fresh (c .sizes)) s b) l k y refl));
-    values = λ i t l h e. absurd (true≢false (sym e ∙ fresh-valued i t));
-    propositions = λ i t l h e. absurd (true≢false (sym e ∙ fresh-noted i t));
-  }
-
   fresh-exact : Exact (c .sizes) (fresh (c .sizes)) (λ m. ⊥)
   fresh-exact = record {
-    numbers = λ s p n l h b. (λ e. inl (fresh-known s p n l h b e), back s p n l);
-    facts = λ i t b l h. (λ e. absurd (true≢false (sym (fact-law (fresh (c .sizes)) i t b .0 e .is) ∙ fresh-noted i t)), λ y. absurd (y .1));
+    numbers = λ s p n l h b. (λ e. inl (fresh-known c s p n l h b e), back s p n l);
+    facts = λ i t b l h. (λ e. absurd (true≢false (sym (fact-law (fresh (c .sizes)) i t b .0 e .is) ∙ fresh-noted c i t)), λ y. absurd (y .1));
     unknown-number = cap;
-    words = λ i. rw (fresh-facts i) (omega arith);
-    sound = fresh-sound;
+    words = λ i. rw (fresh-facts c i) (omega arith);
+    sound = fresh-sound c;
   }
     where
       back : (s p n : ℕ) → s < c .sizes .components → ((p ≡ 0) × (n ≡ 0)) ⊎ ((m : Message) × ⊥ × (m .component ≡ s) × Fixes-number (m .event) p n) → number (c .sizes) (fresh (c .sizes)) s p ≡ n
-      back s p n l (inl y) = rw (y .0, y .1) (fresh-first s l)
+      back s p n l (inl y) = rw (y .0, y .1) (fresh-first c s l)
       back s p n l (inr y) = absurd (y .1)
 
       cap : (s p : ℕ) → s < c .sizes .components → p ≤ c .sizes .minutes → number (c .sizes) (fresh (c .sizes)) s p ≤ none
-      cap s p l h = rw (fresh-number s p l h) (go (eqb p 0))
+      cap s p l h = rw (fresh-number c s p l h) (go (eqb p 0))
         where
           go : (b : Bool) → cond b 0 none ≤ none
           go true = omega arith
           go false = omega arith
 
-  -- no minute of the fresh record is time-point
-  fresh-open : (t : ℕ) → t < c .sizes .minutes → is-point (c .sizes) (fresh (c .sizes)) t ≡ false
-  fresh-open t h = go (is-point (c .sizes) (fresh (c .sizes)) t) refl
-    where
-      go : (b : Bool) → is-point (c .sizes) (fresh (c .sizes)) t ≡ b → is-point (c .sizes) (fresh (c .sizes)) t ≡ false
-      go false e = e
-      go true e =
-          let k = point-law (c .sizes) (fresh (c .sizes)) t .0 e in
-          absurd (omega (arith, fresh-known (k .component) (suc t) (number (c .sizes) (fresh (c .sizes)) (k .component) (suc t)) (k .is-component) h (k .after) refl))
-
-  fresh-verdict : (r t : ℕ) → t < c .sizes .minutes → verdict c (fresh (c .sizes)) r t ≡ 0
-  fresh-verdict r t h = ap (λ (x : Bool). cond x (codeOf (value c (fresh (c .sizes)) (rule-line c r) t)) 0) (fresh-open t h)
-
-  blank-sheet : replicate (c .rules * c .sizes .minutes) 0 ≡ verdicts-of c (fresh (c .sizes))
-  unfolding verdicts-of
-  blank-sheet = ext-getD 0 _ _ (length-replicate {A = ℕ} (c .rules * c .sizes .minutes) 0 ∙ sym (table-length (c .rules * c .sizes .minutes) _)) at
-    where
-      at : (i : ℕ) → i < length (replicate {A = ℕ} (c .rules * c .sizes .minutes) 0)
-          → getD (replicate (c .rules * c .sizes .minutes) 0) i 0 ≡ getD (table (c .rules * c .sizes .minutes) (λ i. verdict c (fresh (c .sizes)) (i / c .sizes .minutes) (i % c .sizes .minutes))) i 0
-      at i h =
-          let l : i < c .rules * c .sizes .minutes = rw (length-replicate {A = ℕ} (c .rules * c .sizes .minutes) 0) at h in
-          getD-replicate (c .rules * c .sizes .minutes) i 0 0 l
-          ∙ sym (table-at (c .rules * c .sizes .minutes) (λ i. verdict c (fresh (c .sizes)) (i / c .sizes .minutes) (i % c .sizes .minutes)) i 0 l
-          ∙ fresh-verdict (i / c .sizes .minutes) (i % c .sizes .minutes) (place-in (c .sizes .minutes) i (some (c .sizes .minutes) l)))
-        where
-          some : (m : ℕ) → i < c .rules * m → 0 < m
-          some zero l = absurd (omega arith)
-          some (suc m) l = omega arith
-
-  lengths : (length (fresh (c .sizes) .numbers) ≡ c .sizes .components * suc (c .sizes .minutes)) × (length (fresh (c .sizes) .facts) ≡ 2 * c .sizes .minutes) × (length (valuation-of c (fresh (c .sizes))) ≡ c .count * c .sizes .minutes)
-  unfolding fresh valuation-of
-  lengths = (table-length (c .sizes .components * suc (c .sizes .minutes)) _, length-replicate {A = ℕ} (2 * c .sizes .minutes) 0, table-length (c .count * c .sizes .minutes) _)
-
   pub opened-up : Kept-up (opened c) (λ m. ⊥)
   unfolding opened
   opened-up = record {
-    sized = record { numbers = lengths .0; facts = lengths .1; valuation = lengths .2; verdicts = length-replicate {A = ℕ} (c .rules * c .sizes .minutes) 0 };
+    sized = record { numbers = lengths c .0; facts = lengths c .1; valuation = lengths c .2; verdicts = length-replicate {A = ℕ} (c .rules * c .sizes .minutes) 0 };
     exact = fresh-exact;
     fits = λ m q. absurd q;
     small = λ m q. absurd q;
     valuation = refl;
-    verdicts = blank-sheet;
+    verdicts = blank-sheet c;
   }
 
   -- ---- an accepted message
@@ -192,10 +120,6 @@ module _ (c : Policy) where
       (set-word l (2 * t) (bitOr (getD l (2 * t) 0) named) f (or-lt 32 (getD l (2 * t) 0) named (f (2 * t)) (z .2)))
       (or-lt 32 (getD l (2 * t + 1) 0) values (f (2 * t + 1)) (z .3)) j
 
-  pub sheet-lengths : (k : Knowledge) → (length (valuation-of c k) ≡ c .count * c .sizes .minutes) × (length (verdicts-of c k) ≡ c .rules * c .sizes .minutes)
-  unfolding valuation-of verdicts-of
-  sheet-lengths k = (table-length (c .count * c .sizes .minutes) _, table-length (c .rules * c .sizes .minutes) _)
-
   module _ (proper : Proper c) (x : State) (Q : Message → Type 0) (up : Kept-up x Q) (m : Message) (fit : Fits (c .sizes) m) (ok : admits (c .sizes) (x .known) m ≡ true) where
     abbrev k : Knowledge
     k = x .known
@@ -204,7 +128,7 @@ module _ (c : Policy) where
     Q′ y = Q y ⊎ (y ≡ m)
 
     long : Long (c .sizes) k
-    long = long-of x (up .sized)
+    long = long-of c x (up .sized)
 
     lax : Free (c .sizes) k (m .component) (m .event)
     unfolding admits
@@ -268,7 +192,7 @@ module _ (c : Policy) where
 
     pub next-up : Kept-up (over c (stored (c .sizes) k m)) Q′
     next-up = record {
-      sized = record { numbers = store-long (c .sizes) k m long fit .numbers; facts = store-long (c .sizes) k m long fit .facts; valuation = sheet-lengths (stored (c .sizes) k m) .0; verdicts = sheet-lengths (stored (c .sizes) k m) .1 };
+      sized = record { numbers = store-long (c .sizes) k m long fit .numbers; facts = store-long (c .sizes) k m long fit .facts; valuation = sheet-lengths c (stored (c .sizes) k m) .0; verdicts = sheet-lengths c (stored (c .sizes) k m) .1 };
       exact = next-exact;
       fits = fits;
       small = small;

@@ -1,0 +1,8 @@
+-- That the calls meet the demands.
+pub mod Invariant
+pub mod Keeping
+pub mod Runs
+pub mod Causes
+pub mod Looks
+pub mod Proved
+pub mod Small
