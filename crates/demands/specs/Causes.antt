@@ -1,20 +1,22 @@
 -- Each refusal has its own cause: the policy's reader answers 1 to 4 only, the message's 7 and 8 only, and each check between one number.
-use Prim.Native.Nat.{ℕ, zero, suc, _≤_}
+use Prim.Native.Nat.{ℕ, _≤_}
 use native.Mathlib.Omega.{arith}
 use mathlib.Core.Path.{_≡_, refl, sym, ap, _∙_}
 use mathlib.Core.Bool.{Bool, true, false, true≢false}
 use mathlib.Core.Logic.{_↔_}
 use mathlib.Core.List.{List}
 use lib.Dec.{eqb, leb}
-use lib.ListN.{getD, length}
-use Rattle.encoding.specs.Fields.{wordOf}
+use lib.ListN.{length}
 use Rattle.refusal.specs.declared.Refusal.{Refusal}
 use Rattle.refusal.specs.declared.Refusal.the-variants.{TruncatedPolicy, BadHeading, BadSubformula, RuleCount, BufferSize, CorruptKnowledge, TruncatedMessage, BadMessage, Conflict, OutOfRange}
 use Rattle.refusal.specs.Numbers.{numberOf}
 use Rattle.policy.specs.declared.Sizes.{Sizes}
 use Rattle.refusal.specs.declared.Answer.{Answer as Checked}
 use Rattle.refusal.specs.declared.Answer.the-variants as C
-use Rattle.policy.specs.Format.{check, andThen, within, fieldsAt, goodLine, offset, rulesUpTo, headingAnswer, lineAnswer, linesAnswer, closingAnswer, countOf, answerOf as policy-answer, policyOf}
+use Rattle.refusal.specs.Laws.{refusal-law}
+use Rattle.policy.specs.Chained.{check}
+use Rattle.policy.specs.Format.{policy-checks, answerOf as policy-answer, policyOf}
+use Rattle.policy.specs.Causes.{policy-refuses}
 use Rattle.policy.specs.Proper.{Causes as Policy-reader-causes}
 use Rattle.message.specs.Format.{lengthOf, goodMessage, answerOf as message-answer}
 use Rattle.message.specs.Fixes.{Fits, Well-formed, meaningOf}
@@ -36,42 +38,13 @@ abbrev pub Numbered : ℕ → ℕ → Checked → Type 0
 Numbered least most C.Accepted = Unit
 Numbered least most (C.Refused r) = (least ≤ numberOf r) × (numberOf r ≤ most)
 
-heading-numbered : (s : List ℕ) → Numbered 1 4 (headingAnswer s)
-unfolding headingAnswer
-heading-numbered s = go (within 1 32 (getD s 0 0)) (within 1 16 (getD s 1 0)) (within 1 1024 (wordOf (getD s 2 0) (getD s 3 0))) (within 1 64 (countOf s))
-  where
-    go : (a b c d : Bool) → Numbered 1 4 (check a (BadHeading 0) (check b (BadHeading 1) (check c (BadHeading 2) (check d (BadHeading 4) C.Accepted))))
-    go false b c d = omega arith
-    go true false c d = omega arith
-    go true true false d = omega arith
-    go true true true false = omega arith
-    go true true true true = tt
-
-lines-numbered : (s : List ℕ) (n : ℕ) → Numbered 1 4 (linesAnswer s n)
-unfolding linesAnswer lineAnswer
-lines-numbered s zero = tt
-lines-numbered s (suc i) = go (linesAnswer s i) (lines-numbered s i) (leb (offset s (suc i)) (length s)) (goodLine (getD s 0 0) i (fieldsAt s (offset s i)))
-  where
-    go : (a : Checked) → Numbered 1 4 a → (b c : Bool) → Numbered 1 4 (andThen a (check b (TruncatedPolicy (length s)) (check c (BadSubformula (offset s i)) C.Accepted)))
-    go (C.Refused r) n b c = n
-    go C.Accepted n false c = omega arith
-    go C.Accepted n true false = omega arith
-    go C.Accepted n true true = tt
-
 pub policy-numbered : (s : List ℕ) → Numbered 1 4 (policy-answer s)
-unfolding policy-answer closingAnswer
-policy-numbered s =
-    go (leb 5 (length s)) (headingAnswer s) (heading-numbered s) (linesAnswer s (countOf s)) (lines-numbered s (countOf s))
-    (eqb (offset s (countOf s)) (length s)) (within 1 8 (rulesUpTo s (countOf s)))
+unfolding policy-answer
+policy-numbered s = go (policy-answer s) refl
   where
-    go : (a : Bool) (h : Checked) → Numbered 1 4 h → (l : Checked) → Numbered 1 4 l → (b c : Bool)
-        → Numbered 1 4 (check a (TruncatedPolicy (length s)) (andThen h (andThen l (check b (TruncatedPolicy (offset s (countOf s))) (check c RuleCount C.Accepted)))))
-    go false h n l m b c = omega arith
-    go true (C.Refused r) n l m b c = n
-    go true C.Accepted n (C.Refused r) m b c = m
-    go true C.Accepted n C.Accepted m false c = omega arith
-    go true C.Accepted n C.Accepted m true false = omega arith
-    go true C.Accepted n C.Accepted m true true = tt
+    go : (a : Checked) → policy-answer s ≡ a → Numbered 1 4 a
+    go C.Accepted e = tt
+    go (C.Refused r) e = policy-refuses s r (refusal-law (policy-checks s) r .0 e)
 
 message-numbered : (z : Sizes) (b : List ℕ) → Numbered 7 8 (message-answer z b)
 unfolding message-answer

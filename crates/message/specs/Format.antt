@@ -11,7 +11,7 @@ use Rattle.refusal.specs.declared.Refusal.the-variants.{TruncatedMessage, BadMe
 use Rattle.policy.specs.declared.Sizes.{Sizes}
 use Rattle.refusal.specs.declared.Answer.{Answer}
 use Rattle.refusal.specs.declared.Answer.the-variants.{Accepted, Refused}
-use Rattle.policy.specs.Format.{check}
+use Rattle.policy.specs.Chained.{check}
 use Rattle.message.specs.declared.Fields.{Fields}
 use Rattle.message.specs.declared.Event.{Event}
 use Rattle.message.specs.declared.Event.the-variants.{Observation, Alive}

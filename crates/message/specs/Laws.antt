@@ -16,7 +16,7 @@ use Rattle.refusal.specs.declared.Refusal.the-variants.{TruncatedMessage, BadMe
 use Rattle.policy.specs.declared.Sizes.{Sizes}
 use Rattle.refusal.specs.declared.Answer.{Answer}
 use Rattle.refusal.specs.declared.Answer.the-variants.{Accepted, Refused}
-use Rattle.policy.specs.Format.{check}
+use Rattle.policy.specs.Chained.{check}
 use Rattle.message.specs.declared.Fields.{Fields}
 use Rattle.message.specs.declared.Event.the-variants.{Observation, Alive}
 use Rattle.message.specs.Format.{mapOf, componentOf, fieldsOf, namedOf, packedOf, valuesOf, lengthOf, goodAlive, goodObservation, allWritten, goodFields, goodMessage, eventIn, answerOf, withAnswer, decodeOf}

@@ -4,27 +4,46 @@ use mathlib.Core.Path.{_≡_, sym, _∙_}
 use mathlib.Core.List.{List}
 use lib.ListN.{length}
 use Rattle.refusal.specs.declared.Refusal.{Refusal}
+use Rattle.refusal.specs.declared.Answer.{Answer}
+use Rattle.refusal.specs.declared.Answer.the-variants.{Accepted, Refused}
+use Rattle.refusal.specs.Checks.{first-failed, Passed, Refuses}
+use Rattle.refusal.specs.Laws.{refusal-law, passing-law}
 use Rattle.policy.specs.declared.Sizes.{Sizes}
 use Rattle.policy.specs.declared.Subformula.{Subformula}
 use Rattle.policy.specs.declared.Decoded.{Decoded}
 use Rattle.policy.specs.declared.Scanned.{Scanned}
-use Rattle.refusal.specs.declared.Answer.{Answer}
-use Rattle.refusal.specs.declared.Answer.the-variants.{Accepted, Refused}
-use Rattle.policy.specs.Format.{sizesOf, countOf, rulesUpTo, subformulasOf, withAnswer, blank, headingAnswer, closingAnswer, answerOf, policyOf, decodeOf}
+use Rattle.policy.specs.Format.{sizesOf, countOf, rulesUpTo, offset, subformulasOf, withAnswer, blank, heading-checks, lines-checks, closing-checks, policy-checks, answerOf, policyOf, decodeOf}
 use Rattle.policy.specs.Lines.{Scans}
-use Rattle.policy.specs.Answers.{after-heading}
+use Rattle.policy.specs.Answers.{in-lines, in-closing, to-the-end}
 
-pub refuses : (s : List ℕ) (r : Refusal) (d : Decoded) → answerOf s ≡ Refused r → d ≡ withAnswer (Refused r) blank → d ≡ decodeOf s
-unfolding decodeOf
-refuses s r d e f = f ∙ rw e
+pub refuses : (s : List ℕ) (r : Refusal) (d : Decoded) → Refuses (policy-checks s) r → d ≡ withAnswer (Refused r) blank → d ≡ decodeOf s
+unfolding decodeOf answerOf
+refuses s r d q f = f ∙ rw (refusal-law (policy-checks s) r .1 q)
 
--- the answer after lines that are accepted
-pub closes : (s : List ℕ) (lines : Scanned) {a : Answer} → (5 ≤ length s) × (headingAnswer s ≡ Accepted) → Scans s (countOf s) lines
-    → lines .answer ≡ Accepted → a ≡ closingAnswer (length s) (lines .at) (lines .rules) → answerOf s ≡ a
-closes s lines h l e f = after-heading s (h .0) (h .1) (sym (l .answer) ∙ e) ∙ rw (← (l .at e), ← (l .rules e)) (sym f)
-
-pub accepts : (s : List ℕ) (z : Sizes) (rules : ℕ) (t : List Subformula) → answerOf s ≡ Accepted → z ≡ sizesOf s → rules ≡ rulesUpTo s (countOf s)
+pub accepts : (s : List ℕ) (z : Sizes) (rules : ℕ) (t : List Subformula) → Passed (policy-checks s) → z ≡ sizesOf s → rules ≡ rulesUpTo s (countOf s)
     → t ≡ subformulasOf s (countOf s)
     → record { answer = Accepted; policy = record { sizes = z; count = countOf s; rules = rules; subformulas = t } } ≡ decodeOf s
-unfolding decodeOf policyOf
-accepts s z rules t e f g h = rw (e, f, g, h)
+unfolding decodeOf answerOf policyOf
+accepts s z rules t p f g h = rw (passing-law (policy-checks s) .1 p, f, g, h)
+
+-- what the lines answer, and after lines that are accepted the closing checks
+module _ (s : List ℕ) (lines : Scanned) (h : (5 ≤ length s) × (first-failed (heading-checks s) ≡ Accepted)) (l : Scans s (countOf s) lines) where
+  heading : Passed (heading-checks s)
+  heading = passing-law (heading-checks s) .0 (h .1)
+
+  pub line-refused : (r : Refusal) → lines .answer ≡ Refused r → Refuses (policy-checks s) r
+  line-refused r e = in-lines s (h .0) heading r (refusal-law (lines-checks s (countOf s)) r .0 (sym (l .answer) ∙ e))
+
+  module _ (e : lines .answer ≡ Accepted) where
+    read : Passed (lines-checks s (countOf s))
+    read = passing-law (lines-checks s (countOf s)) .0 (sym (l .answer) ∙ e)
+
+    same : {a : Answer} → a ≡ first-failed (closing-checks (length s) (lines .at) (lines .rules))
+        → first-failed (closing-checks (length s) (offset s (countOf s)) (rulesUpTo s (countOf s))) ≡ a
+    same f = rw (← (l .at e), ← (l .rules e)) (sym f)
+
+    pub closing-refused : (r : Refusal) → Refused r ≡ first-failed (closing-checks (length s) (lines .at) (lines .rules)) → Refuses (policy-checks s) r
+    closing-refused r f = in-closing s (h .0) heading r read (refusal-law (closing-checks (length s) (offset s (countOf s)) (rulesUpTo s (countOf s))) r .0 (same f))
+
+    pub all-passed : Accepted ≡ first-failed (closing-checks (length s) (lines .at) (lines .rules)) → Passed (policy-checks s)
+    all-passed f = to-the-end s (h .0) heading read (passing-law (closing-checks (length s) (offset s (countOf s)) (rulesUpTo s (countOf s))) .0 (same f))

@@ -13,14 +13,16 @@ use Rattle.refusal.specs.declared.Refusal.the-variants.{TruncatedPolicy, BadSub
 use Rattle.policy.specs.declared.Subformula.{Subformula}
 use Rattle.policy.specs.declared.Fields.{Fields}
 use Rattle.refusal.specs.declared.Answer.the-variants.{Accepted, Refused}
-use Rattle.policy.specs.Format.{lineLength, fieldsAt, goodLine, subformulaOf, subformulaAt, offset, linesAnswer, noLine, subformulasOf, rulesUpTo}
+use Rattle.refusal.specs.Checks.{Passed, none, pass, Refuses, here, there}
+use Rattle.refusal.specs.Laws.{refusal-law, passing-law}
+use Rattle.policy.specs.Format.{lineLength, fieldsAt, goodLine, subformulaOf, subformulaAt, offset, line-checks, lines-checks, noLine, subformulasOf, rulesUpTo}
 use Rattle.policy.specs.Lines.{Scans}
 use Rattle.policy.specs.Table.{none-yet, one-more}
-use Rattle.policy.specs.Answers.{cut-line, bad-line, fine-line, next-line, first-refused}
+use Rattle.policy.specs.Answers.{refused-line, passed-line}
 
 -- the first i lines are accepted and read
 pub record UpTo (s : List ℕ) (i : ℕ) (subformulas : List Subformula) (rules at : ℕ) : Type 0 where
-  pub accepted : linesAnswer s i ≡ Accepted
+  pub accepted : Passed (lines-checks s i)
   pub place : at ≡ offset s i
   pub inside : at ≤ length s
   pub counted : rules ≡ rulesUpTo s i
@@ -28,8 +30,8 @@ pub record UpTo (s : List ℕ) (i : ℕ) (subformulas : List Subformula) (rules 
   pub table : subformulas ≡ subformulasOf s i
 
 pub nothing-read : (s : List ℕ) → 5 ≤ length s → UpTo s 0 (replicate 64 noLine) 0 5
-unfolding linesAnswer offset rulesUpTo
-nothing-read s h = record { accepted = refl; place = refl; inside = h; counted = refl; few = omega arith; table = none-yet s }
+unfolding lines-checks offset rulesUpTo
+nothing-read s h = record { accepted = none; place = refl; inside = h; counted = refl; few = omega arith; table = none-yet s }
 
 -- what the code knows of the line at the place
 module _ (s : List ℕ) (i : ℕ) (t : List Subformula) (rules at : ℕ) (u : UpTo s i t rules at) where
@@ -40,8 +42,9 @@ module _ (s : List ℕ) (i : ℕ) (t : List Subformula) (rules at : ℕ) (u : Up
   keeps : {b : Bool} → goodLine (getD s 0 0) i (fieldsAt s at) ≡ b → goodLine (getD s 0 0) i (fieldsAt s (offset s i)) ≡ b
   keeps e = rw (← u .place) e
 
-  pub cut : (n : ℕ) → i < n → leb (at + lineLength (getD s at 0)) (length s) ≡ false → linesAnswer s n ≡ Refused (TruncatedPolicy (length s))
-  cut n h e = first-refused s i n _ h (u .accepted) (cut-line s i (ends e))
+  pub cut : (n : ℕ) → i < n → leb (at + lineLength (getD s at 0)) (length s) ≡ false → Refuses (lines-checks s n) (TruncatedPolicy (length s))
+  unfolding line-checks
+  cut n h e = refused-line s i n _ h (u .accepted) (here (ends e))
 
   -- the code's fields of that line
   module _ (f : Fields) (same : f ≡ fieldsAt s at) (whole : leb (at + lineLength (getD s at 0)) (length s) ≡ true) where
@@ -49,15 +52,16 @@ module _ (s : List ℕ) (i : ℕ) (t : List Subformula) (rules at : ℕ) (u : Up
     unfolding fieldsAt
     its-map = rw same
 
-    pub bad : (n : ℕ) → i < n → goodLine (getD s 0 0) i f ≡ false → linesAnswer s n ≡ Refused (BadSubformula at)
-    bad n h g = first-refused s i n _ h (u .accepted) (rw (u .place) (bad-line s i (ends whole) (keeps (rw (← same) g))))
+    pub bad : (n : ℕ) → i < n → goodLine (getD s 0 0) i f ≡ false → Refuses (lines-checks s n) (BadSubformula at)
+    unfolding line-checks
+    bad n h g = rw (u .place) (refused-line s i n _ h (u .accepted) (there (ends whole) (here (keeps (rw (← same) g)))))
 
     pub one-line : {v : Subformula} {n m : ℕ} → i < 64 → goodLine (getD s 0 0) i f ≡ true → v ≡ subformulaOf f
         → (n ≡ size (has (f .map) 5) 1) × (n ≤ 1) → m ≡ lineLength (f .map) → UpTo s (suc i) (set t i v) (rules + n) (at + m)
-    unfolding offset rulesUpTo subformulaAt
+    unfolding offset rulesUpTo subformulaAt line-checks
     one-line h g v n m =
         record {
-          accepted = next-line s i (u .accepted) (fine-line s i (ends whole) (keeps (rw (← same) g)));
+          accepted = passed-line s i (u .accepted) (pass (ends whole) (pass (keeps (rw (← same) g)) none));
           place = rw (m, its-map, u .place);
           inside = rw (m, its-map) (leb-true _ _ whole);
           counted = rw (n .0, its-map, u .counted, u .place);
@@ -65,11 +69,11 @@ module _ (s : List ℕ) (i : ℕ) (t : List Subformula) (rules at : ℕ) (u : Up
           table = rw (u .table, v, same, u .place) (one-more s i h);
         }
 
-pub refused-lines : (s : List ℕ) (n : ℕ) (t : List Subformula) (rules at : ℕ) (r : Refusal) → linesAnswer s n ≡ Refused r
+pub refused-lines : (s : List ℕ) (n : ℕ) (t : List Subformula) (rules at : ℕ) (r : Refusal) → Refuses (lines-checks s n) r
     → Scans s n (record { answer = Refused r; at = at; rules = rules; subformulas = t })
-refused-lines s n t rules at r e =
+refused-lines s n t rules at r q =
     record {
-      answer = sym e;
+      answer = sym (refusal-law (lines-checks s n) r .1 q);
       at = λ f. absurd (let z : _≡_ {A = ℕ} 0 1 = cc in omega arith);
       rules = λ f. absurd (let z : _≡_ {A = ℕ} 0 1 = cc in omega arith);
       subformulas = λ f. absurd (let z : _≡_ {A = ℕ} 0 1 = cc in omega arith);
@@ -77,4 +81,4 @@ refused-lines s n t rules at r e =
 
 pub read-lines : (s : List ℕ) (n : ℕ) (t : List Subformula) (rules at : ℕ) → UpTo s n t rules at
     → Scans s n (record { answer = Accepted; at = at; rules = rules; subformulas = t })
-read-lines s n t rules at u = record { answer = sym (u .accepted); at = λ f. u .place; rules = λ f. u .counted; subformulas = λ f. u .table }
+read-lines s n t rules at u = record { answer = sym (passing-law (lines-checks s n) .1 (u .accepted)); at = λ f. u .place; rules = λ f. u .counted; subformulas = λ f. u .table }

@@ -1,73 +1,63 @@
--- What the answers of the lines come to, line by line. Assumes nothing.
-use Prim.Native.Nat.{ℕ, zero, suc, _+_, _-_, _≤_, _<_}
-use mathlib.Core.Path.{_≡_, subst, _∙_}
-use mathlib.Core.Bool.{Bool, true, false}
-use mathlib.Core.List.{List}
-use native.Mathlib.Numerals.{unary-clauses}
+-- Where in the list of checks a refusal stands. Assumes nothing.
+use Prim.Native.Nat.{ℕ, zero, suc, _≤_, _<_}
+use mathlib.Core.Path.{_≡_, sym, subst}
+use mathlib.Core.List.{List, _++_}
+use mathlib.Core.Logic.{⊎-elim}
 use native.Mathlib.Omega.{arith}
+use native.Mathlib.Nat.{eq-or-lt-of-le}
 use borrow.Author.Tests.{le-leb, lt-leb}
-use lib.Dec.{leb}
-use lib.ListN.{length, getD}
+use lib.ListN.{length}
 use Rattle.refusal.specs.declared.Refusal.{Refusal}
-use Rattle.refusal.specs.declared.Refusal.the-variants.{TruncatedPolicy, BadSubformula}
-use Rattle.refusal.specs.declared.Answer.{Answer}
-use Rattle.refusal.specs.declared.Answer.the-variants.{Accepted, Refused}
-use Rattle.policy.specs.Format.{check, andThen, countOf, rulesUpTo, fieldsAt, goodLine, headingAnswer, offset, lineAnswer, linesAnswer, closingAnswer, answerOf}
-
-pub passes : {b : Bool} (r : Refusal) (next : Answer) → b ≡ true → check b r next ≡ next
-passes r next e = rw e
-
-pub fails : {b : Bool} (r : Refusal) (next : Answer) → b ≡ false → check b r next ≡ Refused r
-fails r next e = rw e
+use Rattle.refusal.specs.declared.Refusal.the-variants.{TruncatedPolicy}
+use Rattle.refusal.specs.Checks.{Check, Passed, pass, Refuses, here, there}
+use Rattle.refusal.specs.Laws.{refused-first, refused-later, passed-both}
+use Rattle.policy.specs.Format.{countOf, rulesUpTo, offset, heading-checks, line-checks, lines-checks, closing-checks, policy-checks}
 
 module _ (s : List ℕ) where
-  -- a line that ends early
-  pub cut-line : (i : ℕ) → leb (offset s (suc i)) (length s) ≡ false → lineAnswer s i ≡ Refused (TruncatedPolicy (length s))
-  unfolding lineAnswer
-  cut-line i e = fails _ _ e
-
-  -- a line that breaks a rule
-  pub bad-line : (i : ℕ) → leb (offset s (suc i)) (length s) ≡ true → goodLine (getD s 0 0) i (fieldsAt s (offset s i)) ≡ false
-      → lineAnswer s i ≡ Refused (BadSubformula (offset s i))
-  unfolding lineAnswer
-  bad-line i e f = passes _ _ e ∙ fails _ _ f
-
-  pub fine-line : (i : ℕ) → leb (offset s (suc i)) (length s) ≡ true → goodLine (getD s 0 0) i (fieldsAt s (offset s i)) ≡ true
-      → lineAnswer s i ≡ Accepted
-  unfolding lineAnswer
-  fine-line i e f = passes _ _ e ∙ passes _ _ f
-
-  -- the answer of one line more, those before it being accepted
-  pub next-line : (i : ℕ) {a : Answer} → linesAnswer s i ≡ Accepted → lineAnswer s i ≡ a → linesAnswer s (suc i) ≡ a
-  unfolding linesAnswer
-  next-line i e f = rw e f
-
-  -- a refusal is not taken back
-  once : (i : ℕ) (r : Refusal) → linesAnswer s i ≡ Refused r → linesAnswer s (suc i) ≡ Refused r
-  unfolding linesAnswer
-  once i r e = rw e
-
-  stays : (i k : ℕ) (r : Refusal) → linesAnswer s i ≡ Refused r → linesAnswer s (i + k) ≡ Refused r
-  stays i zero r e = simp unary-clauses e
-  stays i (suc k) r e = simp unary-clauses (once (i + k) r (stays i k r e))
-
   -- the first line that is refused refuses them all
-  pub first-refused : (i n : ℕ) (r : Refusal) → i < n → linesAnswer s i ≡ Accepted → lineAnswer s i ≡ Refused r → linesAnswer s n ≡ Refused r
-  first-refused i n r h e f =
-      let k : suc i + (n - suc i) ≡ n = omega arith in
-      subst (λ (m : ℕ). linesAnswer s m ≡ Refused r) k (stays (suc i) (n - suc i) r (next-line i e f))
+  pub refused-line : (i n : ℕ) (r : Refusal) → i < n → Passed (lines-checks s i) → Refuses (line-checks s i) r → Refuses (lines-checks s n) r
+  unfolding lines-checks
+  refused-line i zero r h p q = absurd (omega arith)
+  refused-line i (suc n) r h p q =
+      ⊎-elim
+      (λ (e : i ≡ n).
+      refused-later (lines-checks s n) (line-checks s n) r (subst (λ (m : ℕ). Passed (lines-checks s m)) e p) (subst (λ (m : ℕ). Refuses (line-checks s m) r) e q))
+      (λ (l : i < n). refused-first (lines-checks s n) (line-checks s n) r (refused-line i n r l p q))
+      (eq-or-lt-of-le (omega arith))
 
-  -- ---- the card's answer, as far as its parts are known
+  pub passed-line : (i : ℕ) → Passed (lines-checks s i) → Passed (line-checks s i) → Passed (lines-checks s (suc i))
+  unfolding lines-checks
+  passed-line i p q = passed-both (lines-checks s i) (line-checks s i) p q
 
-  pub no-heading : length s < 5 → answerOf s ≡ Refused (TruncatedPolicy (length s))
-  unfolding answerOf
-  no-heading h = fails _ _ (lt-leb 5 (length s) h)
+  -- ---- the parts of the list
 
-  pub after-length : {a : Answer} → 5 ≤ length s → headingAnswer s ≡ a
-      → answerOf s ≡ andThen a (andThen (linesAnswer s (countOf s)) (closingAnswer (length s) (offset s (countOf s)) (rulesUpTo s (countOf s))))
-  unfolding answerOf
-  after-length h e = passes _ _ (le-leb 5 (length s) h) ∙ rw e
+  abbrev pub closing : List Check
+  closing = closing-checks (length s) (offset s (countOf s)) (rulesUpTo s (countOf s))
 
-  pub after-heading : {a : Answer} → 5 ≤ length s → headingAnswer s ≡ Accepted → linesAnswer s (countOf s) ≡ a
-      → answerOf s ≡ andThen a (closingAnswer (length s) (offset s (countOf s)) (rulesUpTo s (countOf s)))
-  after-heading h e f = after-length h e ∙ rw f
+  pub no-heading : length s < 5 → Refuses (policy-checks s) (TruncatedPolicy (length s))
+  unfolding policy-checks
+  no-heading h = here (lt-leb 5 (length s) h)
+
+  module _ (h : 5 ≤ length s) where
+    pub in-heading : (r : Refusal) → Refuses (heading-checks s) r → Refuses (policy-checks s) r
+    unfolding policy-checks
+    in-heading r q = there (le-leb 5 (length s) h) (refused-first (heading-checks s) (lines-checks s (countOf s) ++ closing) r q)
+
+    module _ (p : Passed (heading-checks s)) where
+      pub in-lines : (r : Refusal) → Refuses (lines-checks s (countOf s)) r → Refuses (policy-checks s) r
+      unfolding policy-checks
+      in-lines r q =
+          there (le-leb 5 (length s) h)
+          (refused-later (heading-checks s) (lines-checks s (countOf s) ++ closing) r p (refused-first (lines-checks s (countOf s)) closing r q))
+
+      pub in-closing : (r : Refusal) → Passed (lines-checks s (countOf s)) → Refuses closing r → Refuses (policy-checks s) r
+      unfolding policy-checks
+      in-closing r l q =
+          there (le-leb 5 (length s) h)
+          (refused-later (heading-checks s) (lines-checks s (countOf s) ++ closing) r p (refused-later (lines-checks s (countOf s)) closing r l q))
+
+      pub to-the-end : Passed (lines-checks s (countOf s)) → Passed closing → Passed (policy-checks s)
+      unfolding policy-checks
+      to-the-end l q =
+          pass (le-leb 5 (length s) h)
+          (passed-both (heading-checks s) (lines-checks s (countOf s) ++ closing) p (passed-both (lines-checks s (countOf s)) closing l q))

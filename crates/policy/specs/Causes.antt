@@ -1,186 +1,199 @@
--- Each number is answered for its own cause: an answer is the first test that fails, so it tells that those before it were passed.
--- Assumes nothing.
+-- Each number is answered for its own cause: a refusal tells that its test failed and that those before it passed. Assumes nothing.
 use Prim.Native.Nat.{ℕ, zero, suc, _≤_, _<_}
-use mathlib.Core.Path.{_≡_, refl, sym, subst, _∙_}
-use mathlib.Core.Bool.{Bool, true, false}
-use mathlib.Core.Logic.{⊎-elim}
-use mathlib.Core.List.{List}
+use mathlib.Core.Path.{_≡_, refl, sym, subst}
+use mathlib.Core.Bool.{true, false}
+use mathlib.Core.Logic.{_⊎_, inl, inr, ⊎-elim}
+use mathlib.Core.List.{List, _++_}
 use native.Mathlib.Omega.{arith}
 use native.Mathlib.Nat.{eq-or-lt-of-le}
 use borrow.Author.Tests.{leb-true, leb-false, le-leb, lt-leb, eqb-true, eqb-false, eq-eqb, ne-eqb}
-use lib.Dec.{leb, eqb}
 use lib.ListN.{length, getD}
-use Rattle.encoding.specs.Fields.{wordOf}
 use Rattle.refusal.specs.declared.Refusal.{Refusal}
-use Rattle.refusal.specs.declared.Refusal.the-variants.{TruncatedPolicy, BadHeading, BadSubformula, RuleCount, BufferSize, CorruptKnowledge, TruncatedMessage, BadMessage, Conflict, OutOfRange}
-use Rattle.refusal.specs.declared.Answer.{Answer}
-use Rattle.refusal.specs.declared.Answer.the-variants.{Accepted, Refused}
-use Rattle.policy.specs.Format.{within, check, andThen, countOf, fieldsAt, goodLine, offset, rulesUpTo, headingAnswer, lineAnswer, linesAnswer, closingAnswer, answerOf}
-use Rattle.policy.specs.Proper.{Between, Headed, Fine-before, Cut, Misheaded, Misformed, Whole}
-use Rattle.policy.specs.Answers.{passes, fails, cut-line, bad-line, fine-line, next-line, first-refused, no-heading, after-length, after-heading}
+use Rattle.refusal.specs.declared.Refusal.the-variants.{TruncatedPolicy, BadHeading, BadSubformula, RuleCount}
+use Rattle.refusal.specs.declared.Answer.the-variants.{Refused}
+use Rattle.refusal.specs.Numbers.{numberOf}
+use Rattle.refusal.specs.Checks.{first-failed, Passed, none, pass, Refuses, here, there}
+use Rattle.refusal.specs.Laws.{refusal-law, passing-law, refused-where, passed-parts}
+use Rattle.policy.specs.Format.{countOf, fieldsAt, goodLine, offset, rulesUpTo, heading-checks, line-checks, lines-checks, closing-checks, policy-checks, answerOf}
+use Rattle.policy.specs.Proper.{Between, Headed, Fine-before, Cut, Misheaded, Misformed, Whole, Causes}
+use Rattle.policy.specs.Answers.{refused-line, passed-line, closing, no-heading, in-heading, in-lines, in-closing, to-the-end}
 use Rattle.policy.specs.Ranges.{in-between, between-in, not-between, outside}
 
--- what holds either way of a check holds of its answer
-on-check : (P : Answer → Type 0) (b : Bool) (r : Refusal) (next : Answer) → (b ≡ true → P next) → (b ≡ false → P (Refused r)) → P (check b r next)
-on-check P true r next y n = y refl
-on-check P false r next y n = n refl
-
-went-on : (b : Bool) (r : Refusal) (next : Answer) → check b r next ≡ Accepted → (b ≡ true) × (next ≡ Accepted)
-went-on true r next e = (refl, e)
-went-on false r next e = absurd (let z : _≡_ {A = ℕ} 0 1 = cc in omega arith)
-
 module _ (s : List ℕ) where
-  -- a heading that passes its tests
-  pub headed : 5 ≤ length s → headingAnswer s ≡ Accepted → Headed s
-  unfolding headingAnswer
-  headed h e =
-      let a = went-on _ _ _ e in
-      let b = went-on _ _ _ (a .1) in
-      let c = went-on _ _ _ (b .1) in
-      let d = went-on _ _ _ (c .1) in
+  -- ---- what passes, and what is then known
+
+  pub headed : 5 ≤ length s → Passed (heading-checks s) → Headed s
+  unfolding heading-checks
+  headed h (pass a (pass b (pass c (pass d none)))) =
       record {
         long = h;
-        propositions = in-between _ _ _ (a .0);
-        components = in-between _ _ _ (b .0);
-        minutes = in-between _ _ _ (c .0);
-        count = in-between _ _ _ (d .0);
+        propositions = in-between _ _ _ a;
+        components = in-between _ _ _ b;
+        minutes = in-between _ _ _ c;
+        count = in-between _ _ _ d;
       }
 
-  -- ---- from a cause to its answer
-
-  heading-good : Headed s → headingAnswer s ≡ Accepted
-  unfolding headingAnswer
-  heading-good h =
-      passes _ _ (between-in _ _ _ (h .propositions))
-      ∙ passes _ _ (between-in _ _ _ (h .components))
-      ∙ passes _ _ (between-in _ _ _ (h .minutes))
-      ∙ passes _ _ (between-in _ _ _ (h .count))
-
-  lines-good : (n : ℕ) → Fine-before s n → linesAnswer s n ≡ Accepted
-  unfolding linesAnswer
-  lines-good zero f = refl
-  lines-good (suc n) f =
-      let l = f n (omega arith) in
-      next-line s n (lines-good n (λ j h. f j (omega arith))) (fine-line s n (le-leb _ _ (l .0)) (l .1))
-
-  refused-at : (i : ℕ) (r : Refusal) → Headed s → i < countOf s → Fine-before s i → lineAnswer s i ≡ Refused r → answerOf s ≡ Refused r
-  refused-at i r h l f e = after-heading s (h .long) (heading-good h) (first-refused s i (countOf s) r l (lines-good i f) e)
-
-  closed : Headed s → Fine-before s (countOf s) → answerOf s ≡ closingAnswer (length s) (offset s (countOf s)) (rulesUpTo s (countOf s))
-  closed h f = after-heading s (h .long) (heading-good h) (lines-good (countOf s) f)
-
-  pub cut-answer : (at : ℕ) → Cut s at → answerOf s ≡ Refused (TruncatedPolicy at)
-  unfolding closingAnswer
-  cut-answer at (Cut.heading h) = no-heading s h
-  cut-answer at (Cut.line i h l f c) = refused-at i _ h l f (cut-line s i (lt-leb _ _ c))
-  cut-answer at (Cut.extra h f m) = closed h f ∙ fails _ _ (ne-eqb _ _ (λ (e : offset s (countOf s) ≡ length s). omega arith))
-
-  pub misheaded-answer : (at : ℕ) → Misheaded s at → answerOf s ≡ Refused (BadHeading at)
-  unfolding headingAnswer
-  misheaded-answer at (Misheaded.propositions h a) = after-length s h (fails _ _ (outside _ _ _ a))
-  misheaded-answer at (Misheaded.components h a b) = after-length s h (passes _ _ (between-in _ _ _ a) ∙ fails _ _ (outside _ _ _ b))
-  misheaded-answer at (Misheaded.minutes h a b c) =
-      after-length s h (passes _ _ (between-in _ _ _ a) ∙ passes _ _ (between-in _ _ _ b) ∙ fails _ _ (outside _ _ _ c))
-  misheaded-answer at (Misheaded.count h a b c d) =
-      after-length s h
-      (passes _ _ (between-in _ _ _ a) ∙ passes _ _ (between-in _ _ _ b) ∙ passes _ _ (between-in _ _ _ c) ∙ fails _ _ (outside _ _ _ d))
-
-  pub misformed-answer : (at : ℕ) → Misformed s at → answerOf s ≡ Refused (BadSubformula at)
-  misformed-answer at (Misformed.line i h l f e g) = refused-at i _ h l f (bad-line s i (le-leb _ _ e) g)
-
-  pub rules-answer : Whole s → (Between 1 8 (rulesUpTo s (countOf s)) → ⊥) → answerOf s ≡ Refused RuleCount
-  unfolding closingAnswer
-  rules-answer w r = closed (w .headed) (w .lines) ∙ passes _ _ (eq-eqb _ _ (w .ends)) ∙ fails _ _ (outside _ _ _ r)
-
-  pub accepted-answer : Whole s → Between 1 8 (rulesUpTo s (countOf s)) → answerOf s ≡ Accepted
-  unfolding closingAnswer
-  accepted-answer w r = closed (w .headed) (w .lines) ∙ passes _ _ (eq-eqb _ _ (w .ends)) ∙ passes _ _ (between-in _ _ _ r)
-
-  -- ---- from an answer to its cause
-
-  -- the first of n lines that is not fine
-  data Broken (n : ℕ) : Refusal → Type 0 where
-    cut : (i : ℕ) → i < n → Fine-before s i → length s < offset s (suc i) → Broken n (TruncatedPolicy (length s))
-    bad : (i : ℕ) → i < n → Fine-before s i → offset s (suc i) ≤ length s → goodLine (getD s 0 0) i (fieldsAt s (offset s i)) ≡ false
-        → Broken n (BadSubformula (offset s i))
-
-  Found : ℕ → Answer → Type 0
-  Found n Accepted = Fine-before s n
-  Found n (Refused r) = Broken n r
-
-  wider : (n : ℕ) (r : Refusal) → Broken n r → Broken (suc n) r
-  wider n r (cut i h f c) = cut i (omega arith) f c
-  wider n r (bad i h f e g) = bad i (omega arith) f e g
+  heading-passes : Headed s → Passed (heading-checks s)
+  unfolding heading-checks
+  heading-passes h =
+      pass (between-in _ _ _ (h .propositions))
+      (pass (between-in _ _ _ (h .components)) (pass (between-in _ _ _ (h .minutes)) (pass (between-in _ _ _ (h .count)) none)))
 
   Fine : ℕ → Type 0
   Fine j = (offset s (suc j) ≤ length s) × (goodLine (getD s 0 0) j (fieldsAt s (offset s j)) ≡ true)
 
-  one-more : (n : ℕ) → Fine-before s n → Fine n → Fine-before s (suc n)
-  unfolding Fine
-  one-more n f e j h = ⊎-elim (λ (p : j ≡ n). subst Fine (sym p) e) (λ (p : j < n). f j p) (eq-or-lt-of-le (omega arith))
+  fine : (i : ℕ) → Passed (line-checks s i) → Fine i
+  unfolding line-checks Fine
+  fine i (pass e (pass g none)) = (leb-true _ _ e, g)
 
-  found : (n : ℕ) → Found n (linesAnswer s n)
-  unfolding linesAnswer lineAnswer Found Fine
-  found zero = λ j h. absurd (omega arith)
-  found (suc n) = go (linesAnswer s n) (found n)
+  line-passes : (i : ℕ) → Fine i → Passed (line-checks s i)
+  unfolding line-checks Fine
+  line-passes i f = pass (le-leb _ _ (f .0)) (pass (f .1) none)
+
+  all-fine : (n : ℕ) → Passed (lines-checks s n) → Fine-before s n
+  unfolding lines-checks Fine
+  all-fine zero p j h = absurd (omega arith)
+  all-fine (suc n) p j h =
+      let q = passed-parts (lines-checks s n) (line-checks s n) p in
+      ⊎-elim (λ (e : j ≡ n). subst Fine (sym e) (fine n (q .1))) (λ (l : j < n). all-fine n (q .0) j l) (eq-or-lt-of-le (omega arith))
+
+  lines-pass : (n : ℕ) → Fine-before s n → Passed (lines-checks s n)
+  unfolding lines-checks Fine
+  lines-pass zero f = none
+  lines-pass (suc n) f = passed-line s n (lines-pass n (λ j h. f j (omega arith))) (line-passes n (f n (omega arith)))
+
+  -- ---- from a cause to its refusal
+
+  pub cut-refuses : (at : ℕ) → Cut s at → Refuses (policy-checks s) (TruncatedPolicy at)
+  unfolding line-checks closing-checks
+  cut-refuses at (Cut.heading h) = no-heading s h
+  cut-refuses at (Cut.line i h l f c) =
+      in-lines s (h .long) (heading-passes h) _ (refused-line s i (countOf s) _ l (lines-pass i f) (here (lt-leb _ _ c)))
+  cut-refuses at (Cut.extra h f m) =
+      in-closing s (h .long) (heading-passes h) _ (lines-pass (countOf s) f) (here (ne-eqb _ _ (λ (e : offset s (countOf s) ≡ length s). omega arith)))
+
+  pub misheaded-refuses : (at : ℕ) → Misheaded s at → Refuses (policy-checks s) (BadHeading at)
+  unfolding heading-checks
+  misheaded-refuses at (Misheaded.propositions h a) = in-heading s h _ (here (outside _ _ _ a))
+  misheaded-refuses at (Misheaded.components h a b) = in-heading s h _ (there (between-in _ _ _ a) (here (outside _ _ _ b)))
+  misheaded-refuses at (Misheaded.minutes h a b c) =
+      in-heading s h _ (there (between-in _ _ _ a) (there (between-in _ _ _ b) (here (outside _ _ _ c))))
+  misheaded-refuses at (Misheaded.count h a b c d) =
+      in-heading s h _ (there (between-in _ _ _ a) (there (between-in _ _ _ b) (there (between-in _ _ _ c) (here (outside _ _ _ d)))))
+
+  pub misformed-refuses : (at : ℕ) → Misformed s at → Refuses (policy-checks s) (BadSubformula at)
+  unfolding line-checks
+  misformed-refuses at (Misformed.line i h l f e g) =
+      in-lines s (h .long) (heading-passes h) _ (refused-line s i (countOf s) _ l (lines-pass i f) (there (le-leb _ _ e) (here g)))
+
+  pub rules-refuse : Whole s → (Between 1 8 (rulesUpTo s (countOf s)) → ⊥) → Refuses (policy-checks s) RuleCount
+  unfolding closing-checks
+  rules-refuse w r =
+      in-closing s (w .headed .long) (heading-passes (w .headed)) _ (lines-pass (countOf s) (w .lines)) (there (eq-eqb _ _ (w .ends)) (here (outside _ _ _ r)))
+
+  pub whole-passes : Whole s → Between 1 8 (rulesUpTo s (countOf s)) → Passed (policy-checks s)
+  unfolding closing-checks
+  whole-passes w r =
+      to-the-end s (w .headed .long) (heading-passes (w .headed)) (lines-pass (countOf s) (w .lines))
+      (pass (eq-eqb _ _ (w .ends)) (pass (between-in _ _ _ r) none))
+
+  -- ---- from a refusal to its cause
+
+  data Cause : Refusal → Type 0 where
+    one : (at : ℕ) → Cut s at → Cause (TruncatedPolicy at)
+    two : (at : ℕ) → Misheaded s at → Cause (BadHeading at)
+    three : (at : ℕ) → Misformed s at → Cause (BadSubformula at)
+    four : Whole s → (Between 1 8 (rulesUpTo s (countOf s)) → ⊥) → Cause RuleCount
+
+  of-heading : (r : Refusal) → 5 ≤ length s → Refuses (heading-checks s) r → Cause r
+  unfolding heading-checks
+  of-heading r h (here a) = two 0 (Misheaded.propositions h (not-between _ _ _ a))
+  of-heading r h (there a (here b)) = two 1 (Misheaded.components h (in-between _ _ _ a) (not-between _ _ _ b))
+  of-heading r h (there a (there b (here c))) = two 2 (Misheaded.minutes h (in-between _ _ _ a) (in-between _ _ _ b) (not-between _ _ _ c))
+  of-heading r h (there a (there b (there c (here d)))) =
+      two 4 (Misheaded.count h (in-between _ _ _ a) (in-between _ _ _ b) (in-between _ _ _ c) (not-between _ _ _ d))
+
+  module _ (h : Headed s) where
+    of-line : (i : ℕ) (r : Refusal) → i < countOf s → Passed (lines-checks s i) → Refuses (line-checks s i) r → Cause r
+    unfolding line-checks
+    of-line i r l p (here c) = one _ (Cut.line i h l (all-fine i p) (leb-false _ _ c))
+    of-line i r l p (there e (here g)) = three _ (Misformed.line i h l (all-fine i p) (leb-true _ _ e) g)
+
+    of-lines : (n : ℕ) (r : Refusal) → n ≤ countOf s → Refuses (lines-checks s n) r → Cause r
+    unfolding lines-checks
+    of-lines (suc n) r l q =
+        ⊎-elim (of-lines n r (omega arith)) (λ (p : Passed (lines-checks s n) × Refuses (line-checks s n) r). of-line n r (omega arith) (p .0) (p .1))
+        (refused-where (lines-checks s n) (line-checks s n) r q)
+
+    -- the lines end where the card does or before
+    inside : (n : ℕ) → 0 < n → Fine-before s n → offset s n ≤ length s
+    inside zero l f = absurd (omega arith)
+    inside (suc n) l f = f n (omega arith) .0
+
+    of-closing : (r : Refusal) → Passed (lines-checks s (countOf s)) → Refuses (closing s) r → Cause r
+    unfolding closing-checks
+    of-closing r p (here e) =
+        let f = all-fine (countOf s) p in
+        one _ (Cut.extra h f (omega (arith, inside (countOf s) (h .count .low) f, eqb-false (offset s (countOf s)) (length s) e)))
+    of-closing r p (there e (here n)) = four (record { headed = h; lines = all-fine (countOf s) p; ends = eqb-true _ _ e }) (not-between _ _ _ n)
+
+  cause : (r : Refusal) → Refuses (policy-checks s) r → Cause r
+  unfolding policy-checks
+  cause r (here h) = one _ (Cut.heading (leb-false _ _ h))
+  cause r (there h q) =
+      let l = leb-true 5 (length s) h in
+      ⊎-elim (of-heading r l)
+      (λ (p : Passed (heading-checks s) × Refuses (lines-checks s (countOf s) ++ closing s) r).
+      let g = headed l (p .0) in
+      ⊎-elim (of-lines g (countOf s) r (omega arith))
+      (λ (q : Passed (lines-checks s (countOf s)) × Refuses (closing s) r). of-closing g r (q .0) (q .1))
+      (refused-where (lines-checks s (countOf s)) (closing s) r (p .1)))
+      (refused-where (heading-checks s) (lines-checks s (countOf s) ++ closing s) r q)
+
+  pub passed-whole : Passed (policy-checks s) → Whole s × Between 1 8 (rulesUpTo s (countOf s))
+  unfolding policy-checks closing-checks
+  passed-whole (pass h q) =
+      let p = passed-parts (heading-checks s) (lines-checks s (countOf s) ++ closing s) q in
+      let c = passed-parts (lines-checks s (countOf s)) (closing s) (p .1) in
+      go (headed (leb-true 5 (length s) h) (p .0)) (c .0) (c .1)
     where
-      go : (a : Answer) → Found n a → Found (suc n) (andThen a (lineAnswer s n))
-      go Accepted f =
-          on-check (Found (suc n)) (leb (offset s (suc n)) (length s)) _ _
-          (λ e. on-check (Found (suc n)) (goodLine (getD s 0 0) n (fieldsAt s (offset s n))) _ _ (λ g. one-more n f (leb-true _ _ e, g))
-          (λ g. bad n (omega arith) f (leb-true _ _ e) g))
-          (λ e. cut n (omega arith) f (leb-false _ _ e))
-      go (Refused r) b = wider n r b
+      go : Headed s → Passed (lines-checks s (countOf s)) → Passed (closing s) → Whole s × Between 1 8 (rulesUpTo s (countOf s))
+      go g l (pass e (pass r none)) = (record { headed = g; lines = all-fine (countOf s) l; ends = eqb-true _ _ e }, in-between _ _ _ r)
 
-  -- why an answer is given
-  unfoldable pub Cause : Answer → Type 0
-  Cause Accepted = Whole s × Between 1 8 (rulesUpTo s (countOf s))
-  Cause (Refused (TruncatedPolicy at)) = Cut s at
-  Cause (Refused (BadHeading at)) = Misheaded s at
-  Cause (Refused (BadSubformula at)) = Misformed s at
-  Cause (Refused RuleCount) = Whole s × (Between 1 8 (rulesUpTo s (countOf s)) → ⊥)
-  Cause (Refused BufferSize) = ⊥
-  Cause (Refused CorruptKnowledge) = ⊥
-  Cause (Refused (TruncatedMessage at)) = ⊥
-  Cause (Refused BadMessage) = ⊥
-  Cause (Refused Conflict) = ⊥
-  Cause (Refused OutOfRange) = ⊥
+  -- ---- the causes
 
-  -- the lines end where the card does or before
-  inside : (n : ℕ) → 0 < n → Fine-before s n → offset s n ≤ length s
-  inside zero h f = absurd (omega arith)
-  inside (suc n) h f = f n (omega arith) .0
+  -- the policy's reader answers 1 to 4 only
+  pub policy-refuses : (r : Refusal) → Refuses (policy-checks s) r → (1 ≤ numberOf r) × (numberOf r ≤ 4)
+  policy-refuses r q = go r (cause r q)
+    where
+      go : (r : Refusal) → Cause r → (1 ≤ numberOf r) × (numberOf r ≤ 4)
+      go r (one at c) = (omega arith, omega arith)
+      go r (two at c) = (omega arith, omega arith)
+      go r (three at c) = (omega arith, omega arith)
+      go r (four w c) = (omega arith, omega arith)
 
-  after-lines : Headed s → (a : Answer) → Found (countOf s) a
-      → Cause (andThen a (closingAnswer (length s) (offset s (countOf s)) (rulesUpTo s (countOf s))))
-  unfolding closingAnswer Found Cause
-  after-lines h (Refused (TruncatedPolicy at)) (cut i l f c) = Cut.line i h l f c
-  after-lines h (Refused (BadSubformula at)) (bad i l f e g) = Misformed.line i h l f e g
-  after-lines h Accepted f =
-      on-check Cause (eqb (offset s (countOf s)) (length s)) _ _
-      (λ e.
-      let w : Whole s = record { headed = h; lines = f; ends = eqb-true _ _ e } in
-      on-check Cause (within 1 8 (rulesUpTo s (countOf s))) _ _ (λ r. (w, in-between _ _ _ r)) (λ r. (w, not-between _ _ _ r)))
-      (λ e. Cut.extra h f (omega (arith, inside (countOf s) (h .count .low) f, eqb-false (offset s (countOf s)) (length s) e)))
+  pub causes : Causes s
+  unfolding answerOf
+  causes =
+      record {
+        one = λ at. (λ e. its-one at (why (TruncatedPolicy at) e), λ c. refusal-law (policy-checks s) _ .1 (cut-refuses at c));
+        two = λ at. (λ e. its-two at (why (BadHeading at) e), λ c. refusal-law (policy-checks s) _ .1 (misheaded-refuses at c));
+        three = λ at. (λ e. its-three at (why (BadSubformula at) e), λ c. refusal-law (policy-checks s) _ .1 (misformed-refuses at c));
+        four = (λ e. its-four (why RuleCount e), λ w. refusal-law (policy-checks s) _ .1 (rules-refuse (w .0) (w .1)));
+        accepted = (λ e. passed-whole (passing-law (policy-checks s) .0 e), λ w. passing-law (policy-checks s) .1 (whole-passes (w .0) (w .1)));
+      }
+    where
+      why : (r : Refusal) → first-failed (policy-checks s) ≡ Refused r → Cause r
+      why r e = cause r (refusal-law (policy-checks s) r .0 e)
 
-  pub cause : Cause (answerOf s)
-  unfolding answerOf headingAnswer Cause
-  cause =
-      let rest = andThen (linesAnswer s (countOf s)) (closingAnswer (length s) (offset s (countOf s)) (rulesUpTo s (countOf s))) in
-      let P : Answer → Type 0 = λ a. Cause (andThen a rest) in
-      on-check Cause (leb 5 (length s)) _ _
-      (λ h.
-      let l = leb-true _ _ h in
-      on-check P (within 1 32 (getD s 0 0)) _ _
-      (λ a. on-check P (within 1 16 (getD s 1 0)) _ _
-      (λ b. on-check P (within 1 1024 (wordOf (getD s 2 0) (getD s 3 0))) _ _
-      (λ c. on-check P (within 1 64 (countOf s)) _ _
-      (λ d. after-lines (record { long = l; propositions = in-between _ _ _ a; components = in-between _ _ _ b; minutes = in-between _ _ _ c; count = in-between _ _ _ d }) (linesAnswer s (countOf s)) (found (countOf s)))
-      (λ d. Misheaded.count l (in-between _ _ _ a) (in-between _ _ _ b) (in-between _ _ _ c) (not-between _ _ _ d)))
-      (λ c. Misheaded.minutes l (in-between _ _ _ a) (in-between _ _ _ b) (not-between _ _ _ c)))
-      (λ b. Misheaded.components l (in-between _ _ _ a) (not-between _ _ _ b)))
-      (λ a. Misheaded.propositions l (not-between _ _ _ a)))
-      (λ h. Cut.heading (leb-false _ _ h))
+      its-one : (at : ℕ) → Cause (TruncatedPolicy at) → Cut s at
+      its-one at (one _ c) = c
 
-  pub caused : {a : Answer} → answerOf s ≡ a → Cause a
-  caused e = subst Cause e cause
+      its-two : (at : ℕ) → Cause (BadHeading at) → Misheaded s at
+      its-two at (two _ c) = c
+
+      its-three : (at : ℕ) → Cause (BadSubformula at) → Misformed s at
+      its-three at (three _ c) = c
+
+      its-four : Cause RuleCount → Whole s × (Between 1 8 (rulesUpTo s (countOf s)) → ⊥)
+      its-four (four w c) = (w, c)

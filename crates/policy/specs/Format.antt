@@ -7,8 +7,8 @@ use lib.ListN.{getD, length, replicate}
 use Rattle.encoding.specs.Fields.{has, size, wordOf, field8, field16, written}
 use Rattle.mtl.specs.declared.Formula.{Formula}
 use Rattle.mtl.specs.declared.Formula.the-variants as F
-use Rattle.refusal.specs.declared.Refusal.{Refusal}
 use Rattle.refusal.specs.declared.Refusal.the-variants.{TruncatedPolicy, BadHeading, BadSubformula, RuleCount}
+use Rattle.refusal.specs.Checks.{Check, check, first-failed}
 use Rattle.policy.specs.declared.Sizes.{Sizes}
 use Rattle.policy.specs.declared.Subformula.{Subformula}
 use Rattle.policy.specs.declared.Policy.{Policy}
@@ -103,23 +103,14 @@ countOf s = getD s 4 0
 abbrev pub within : ℕ → ℕ → ℕ → Bool
 within least most n = leb least n && leb n most
 
--- ---- answers, one check after another
-
--- refused where the check fails, and else what comes next
-abbrev pub check : Bool → Refusal → Answer → Answer
-check passed r next = cond passed next (Refused r)
-
-abbrev pub andThen : Answer → Answer → Answer
-andThen Accepted next = next
-andThen (Refused r) next = Refused r
-
 -- "Marks (1 to 32), stations (1 to 16) and minutes M (1 to 1,024)", lines "from 1 to 64"; 2, at the first byte of the first such field
-unfoldable pub headingAnswer : List ℕ → Answer
-headingAnswer s =
+unfoldable pub heading-checks : List ℕ → List Check
+heading-checks s =
     check (within 1 32 (getD s 0 0)) (BadHeading 0)
-    (check (within 1 16 (getD s 1 0)) (BadHeading 1)
-    (check (within 1 1024 (wordOf (getD s 2 0) (getD s 3 0))) (BadHeading 2)
-    (check (within 1 64 (countOf s)) (BadHeading 4) Accepted)))
+    ∷ check (within 1 16 (getD s 1 0)) (BadHeading 1)
+    ∷ check (within 1 1024 (wordOf (getD s 2 0) (getD s 3 0))) (BadHeading 2)
+    ∷ check (within 1 64 (countOf s)) (BadHeading 4)
+    ∷ []
 
 -- ---- the lines, "numbered from 0"
 
@@ -129,15 +120,16 @@ offset s zero = 5
 offset s (suc i) = offset s i + lineLength (getD s (offset s i) 0)
 
 -- "Line by line 1 before 3": 1 at the card's length where line i ends early, 3 at its map byte where it breaks a rule
-unfoldable pub lineAnswer : List ℕ → ℕ → Answer
-lineAnswer s i =
+unfoldable pub line-checks : List ℕ → ℕ → List Check
+line-checks s i =
     check (leb (offset s (suc i)) (length s)) (TruncatedPolicy (length s))
-    (check (goodLine (getD s 0 0) i (fieldsAt s (offset s i))) (BadSubformula (offset s i)) Accepted)
+    ∷ check (goodLine (getD s 0 0) i (fieldsAt s (offset s i))) (BadSubformula (offset s i))
+    ∷ []
 
 -- the first n lines
-unfoldable pub linesAnswer : List ℕ → ℕ → Answer
-linesAnswer s zero = Accepted
-linesAnswer s (suc i) = andThen (linesAnswer s i) (lineAnswer s i)
+unfoldable pub lines-checks : List ℕ → ℕ → List Check
+lines-checks s zero = []
+lines-checks s (suc i) = lines-checks s i ++ line-checks s i
 
 unfoldable pub linesUpTo : List ℕ → ℕ → List Subformula
 linesUpTo s zero = []
@@ -163,15 +155,19 @@ rulesUpTo s (suc i) = rulesUpTo s i + size (has (getD s (offset s i) 0) 5) 1
 -- ---- the card
 
 -- "Trailing bytes 1, then 4": "One to eight lines are rules"
-unfoldable pub closingAnswer : ℕ → ℕ → ℕ → Answer
-closingAnswer length at rules = check (eqb at length) (TruncatedPolicy at) (check (within 1 8 rules) RuleCount Accepted)
+unfoldable pub closing-checks : ℕ → ℕ → ℕ → List Check
+closing-checks length at rules = check (eqb at length) (TruncatedPolicy at) ∷ check (within 1 8 rules) RuleCount ∷ []
 
 -- "1 for the heading, 2, then line by line 1 before 3, trailing bytes 1, then 4"
-unfoldable pub answerOf : List ℕ → Answer
-answerOf s =
+unfoldable pub policy-checks : List ℕ → List Check
+policy-checks s =
     check (leb 5 (length s)) (TruncatedPolicy (length s))
-    (andThen (headingAnswer s)
-    (andThen (linesAnswer s (countOf s)) (closingAnswer (length s) (offset s (countOf s)) (rulesUpTo s (countOf s)))))
+    ∷ (heading-checks s
+    ++ (lines-checks s (countOf s)
+    ++ closing-checks (length s) (offset s (countOf s)) (rulesUpTo s (countOf s))))
+
+unfoldable pub answerOf : List ℕ → Answer
+answerOf s = first-failed (policy-checks s)
 
 unfoldable pub policyOf : List ℕ → Policy
 policyOf s = record { sizes = sizesOf s; count = countOf s; rules = rulesUpTo s (countOf s); subformulas = subformulasOf s (countOf s) }

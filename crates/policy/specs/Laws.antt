@@ -1,4 +1,4 @@
--- What a user may rely on: an accepted policy is proper and short, each refusal has its own cause, and decode hands out just that. An
+-- What a user may rely on: an accepted policy is proper and short, and decode hands out just that. An
 -- accepted policy has passed every test, and each test says what the paper's sentence says. Assumes nothing.
 use Prim.Native.Nat.{ℕ, zero, suc, _+_, _*_, _≤_, _<_}
 use mathlib.Core.Path.{_≡_, refl, sym, subst}
@@ -17,23 +17,10 @@ use Rattle.policy.specs.declared.Subformula.{Subformula}
 use Rattle.policy.specs.declared.Fields.{Fields}
 use Rattle.refusal.specs.declared.Answer.the-variants.{Accepted, Refused}
 use Rattle.policy.specs.Format.{lineLength, fieldsAt, allowed, operandsGood, goodLine, meaning, formulaOf, subformulaOf, subformulaAt, countOf, offset, withAnswer, answerOf, policyOf, decodeOf}
-use Rattle.policy.specs.Proper.{Proper, Causes, formulaAt}
+use Rattle.policy.specs.Proper.{Proper, formulaAt}
 use Rattle.policy.specs.Ranges.{both-true}
 use Rattle.policy.specs.Table.{table-length, line-at, past-lines, rules-counted}
-use Rattle.policy.specs.Causes.{Cause, caused, cut-answer, misheaded-answer, misformed-answer, rules-answer, accepted-answer}
-
--- ---- the causes
-
-pub causes : (s : List ℕ) → Causes s
-unfolding Cause
-causes s =
-    record {
-      one = λ at. (caused s, cut-answer s at);
-      two = λ at. (caused s, misheaded-answer s at);
-      three = λ at. (caused s, misformed-answer s at);
-      four = (caused s, λ w. rules-answer s (w .0) (w .1));
-      accepted = (caused s, λ w. accepted-answer s (w .0) (w .1));
-    }
+use Rattle.policy.specs.Causes.{causes}
 
 -- ---- a line that is good
 
@@ -97,9 +84,9 @@ by-lines s P pad line i = go (decLt i (countOf s))
     go (no h) = subst (λ (x : Subformula). P i (x .formula)) (sym (past-lines s (countOf s) i (omega arith))) (pad i)
 
 pub accepted : (s : List ℕ) → answerOf s ≡ Accepted → Proper (policyOf s)
-unfolding Cause policyOf formulaOf
+unfolding policyOf formulaOf
 accepted s e =
-    let p = caused s e in
+    let p = causes s .accepted .0 e in
     let w = p .0 in
     let h = w .headed in
     let is-good : (i : ℕ) → i < countOf s → Good (getD s 0 0) i (fieldsAt s (offset s i)) = λ i l. good _ _ _ (w .lines i l .1) in
@@ -133,9 +120,8 @@ reaches s zero = omega arith
 reaches s (suc n) = omega (arith, reaches s n, line-short (getD s (offset s n) 0))
 
 pub short : (s : List ℕ) → answerOf s ≡ Accepted → length s ≤ 517
-unfolding Cause
 short s e =
-    let w = caused s e .0 in
+    let w = causes s .accepted .0 e .0 in
     omega (arith, reaches s (countOf s), w .ends, w .headed .count .high)
 
 -- ---- what decode hands out

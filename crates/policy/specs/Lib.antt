@@ -1,6 +1,7 @@
 -- The policy: its format, and the laws of what is read.
 pub mod Answers
 pub mod Causes
+pub mod Chained
 pub mod Encoded
 pub mod Format
 pub mod Laws

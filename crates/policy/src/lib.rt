@@ -14,7 +14,8 @@ ghost use mathlib.Core.Bool.{true};
 ghost use lib.ListN.{length, getD};
 ghost use lib.Dec.{eqb, leb};
 ghost use Rattle.encoding.specs.Fields.{size, written};
-ghost use Rattle.policy.specs.Format.{lineLength, fieldsAt, allowed, operandsGood, goodLine, formulaOf, subformulaOf, within, headingAnswer, sizesOf, blank, withAnswer, closingAnswer, decodeOf};
+ghost use Rattle.refusal.specs.Checks.{first-failed};
+ghost use Rattle.policy.specs.Format.{lineLength, fieldsAt, allowed, operandsGood, goodLine, formulaOf, subformulaOf, within, heading-checks, sizesOf, blank, withAnswer, closing-checks, decodeOf};
 ghost use Rattle.policy.specs.Lines.{Scans};
 
 // How many propositions (01: marks), components (01: stations) and minutes a trace has.
@@ -237,7 +238,7 @@ fn in_range(least: usize, most: usize, n: usize) -> bool
 // The first heading number that is out of range.
 fn heading_answer(s: &[u8]) -> Answer
     requires { ⌜ 5 ≤ length (now s) ⌝ }
-    ensures { λ r. ⌜ r ≡ headingAnswer (now (s .entry)) ⌝ }
+    ensures { λ r. ⌜ r ≡ first-failed (heading-checks (now (s .entry))) ⌝ }
 {
     if !in_range(1, 32, s[0] as usize) {
         return Answer::Refused(Refusal::BadHeading(0));
@@ -328,7 +329,7 @@ fn refused(r: Refusal) -> Decoded
 
 // Nothing follows the lines, and one to eight of them are rules.
 fn closing_answer(length: usize, at: usize, rules: usize) -> Answer
-    ensures { λ r. ⌜ r ≡ closingAnswer length at rules ⌝ }
+    ensures { λ r. ⌜ r ≡ first-failed (closing-checks length at rules) ⌝ }
 {
     if at != length {
         return Answer::Refused(Refusal::TruncatedPolicy(at));
@@ -353,7 +354,7 @@ fn sizes_of(s: &[u8]) -> Sizes
 
 // Reads a policy whose heading is good.
 fn decode_lines(s: &[u8]) -> Decoded
-    requires { ⌜ (5 ≤ length (now s)) × (headingAnswer (now s) ≡ Answer.Accepted) ⌝ }
+    requires { ⌜ (5 ≤ length (now s)) × (first-failed (heading-checks (now s)) ≡ Answer.Accepted) ⌝ }
     ensures { λ r. ⌜ r ≡ decodeOf (now (s .entry)) ⌝ }
 {
     let count = s[4] as usize;

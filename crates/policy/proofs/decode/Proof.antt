@@ -1,6 +1,7 @@
 -- Each way out is one check of `answerOf`, with the checks before it passed. Assumes nothing.
 use Rattle.policy.proofs.Decoding.{refuses}
-use Rattle.policy.specs.Answers.{no-heading, after-length}
+use Rattle.policy.specs.Answers.{no-heading, in-heading}
+use Rattle.refusal.specs.Laws.{refusal-law}
 use mathlib.Core.Path.{sym, _∙_}
 use borrow.Author.Needs.{needs}
 use Rattle.policy.proofs.decode.Statement.{statement}
@@ -28,7 +29,7 @@ decode-lines-requires : tie.Need-decode-lines-requires
 decode-lines-requires c κs = (c .before .before .before .if1 .left, sym (c .before .before .heading-answer .ensures) ∙ c .enum-told .given .1)
 
 returns-2 : tie.Need-returns-2
-returns-2 c = refuses _ _ _ (after-length _ (c .before .before .before .before .before .if1 .left) (sym (c .before .before .before .before .heading-answer .ensures) ∙ c .before .before .heading .given .1)) (c .refused2 .ensures)
+returns-2 c = refuses _ _ _ (in-heading _ (c .before .before .before .before .before .if1 .left) _ (refusal-law _ _ .0 (sym (c .before .before .before .before .heading-answer .ensures) ∙ c .before .before .heading .given .1))) (c .refused2 .ensures)
 
 returns-3 : tie.Need-returns-3
 returns-3 c = search needs

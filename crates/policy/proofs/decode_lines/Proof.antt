@@ -1,6 +1,6 @@
 -- The lines answer, and then the closing checks; where both accept, the fields are those of `policyOf`. Assumes nothing.
-use Rattle.policy.proofs.Decoding.{refuses, closes, accepts}
-use Rattle.policy.specs.Answers.{after-heading}
+use Rattle.policy.proofs.Decoding.{refuses, accepts, line-refused, closing-refused, all-passed}
+use Rattle.refusal.specs.Laws.{passing-law}
 use Rattle.policy.specs.Causes.{headed}
 use native.Mathlib.Omega.{arith}
 use mathlib.Core.Path.{sym, _∙_}
@@ -15,7 +15,7 @@ cast-count : tie.Need-cast-count
 cast-count c = omega (arith, c .shared-slice-known2 .given 4)
 
 scan-requires : tie.Need-scan-requires
-scan-requires c κs = let h = c .before .before .pre in (h .0, headed _ (h .0) (h .1) .count .high)
+scan-requires c κs = let h = c .before .before .pre in (h .0, headed _ (h .0) (passing-law _ .0 (h .1)) .count .high)
 
 enum-known-answer : tie.Need-enum-known-answer
 enum-known-answer c = search needs
@@ -43,14 +43,13 @@ sizes-of-requires c κs = search needs
 
 returns : tie.Need-returns
 returns c = let lines = c .before .before .before .before .before in
-    let h = lines .before .before .before .pre in
-    refuses _ _ _ (after-heading _ (h .0) (h .1) (sym (lines .scan .ensures .answer) ∙ c .before .before .answer .given .1)) (c .refused .ensures)
+    refuses _ _ _ (line-refused _ _ (lines .before .before .before .pre) (lines .scan .ensures) _ (c .before .before .answer .given .1)) (c .refused .ensures)
 
 returns-2 : tie.Need-returns-2
 returns-2 c = let told = c .before .before .before .before .before in
     let lines = told .before .before .before in
     let closing = sym (c .before .before .closing .given .1) ∙ c .before .before .before .before .closing-answer .ensures in
-    refuses _ _ _ (closes _ _ (lines .before .before .before .pre) (lines .scan .ensures) (told .enum-told .given .1) closing) (c .refused2 .ensures)
+    refuses _ _ _ (closing-refused _ _ (lines .before .before .before .pre) (lines .scan .ensures) (told .enum-told .given .1) _ closing) (c .refused2 .ensures)
 
 returns-3 : tie.Need-returns-3
 returns-3 c = let told = c .before .before .before .before in
@@ -58,7 +57,7 @@ returns-3 c = let told = c .before .before .before .before in
     let l = lines .scan .ensures in
     let e = told .enum-told .given .1 in
     let closing = sym (c .before .enum-told2 .given .1) ∙ c .before .before .before .closing-answer .ensures in
-    accepts _ _ _ _ (closes _ _ (lines .before .before .before .pre) l e closing) (c .sizes-of .ensures) (l .rules e) (l .subformulas e)
+    accepts _ _ _ _ (all-passed _ _ (lines .before .before .before .pre) l e closing) (c .sizes-of .ensures) (l .rules e) (l .subformulas e)
 
 pub decode-lines-spec : {M : Type 1} → statement M
 decode-lines-spec =

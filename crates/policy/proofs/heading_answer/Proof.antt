@@ -1,7 +1,7 @@
+-- The tests are the checks of `heading-checks`, in its order. Assumes nothing.
 use Rattle.policy.proofs.Line.{held, failed}
--- The tests are the checks of `headingAnswer`, in its order. Assumes nothing.
 use native.Mathlib.Omega.{arith}
-use Rattle.policy.specs.Format.{headingAnswer}
+use Rattle.policy.specs.Format.{heading-checks}
 use borrow.Author.Needs.{needs}
 use Rattle.policy.proofs.heading_answer.Statement.{statement}
 use Rattle.policy.proofs.heading_answer.Tie as tie
@@ -16,7 +16,7 @@ in-range-requires : tie.Need-in-range-requires
 in-range-requires c κs = search needs
 
 returns : tie.Need-returns
-unfolding headingAnswer
+unfolding heading-checks
 returns c = rw (failed (c .before .in-range .ensures) (c .if1 .taken))
 
 shared-slice-read-in-range-2 : tie.Need-shared-slice-read-in-range-2
@@ -29,7 +29,7 @@ in-range-requires-2 : tie.Need-in-range-requires-2
 in-range-requires-2 c κs = search needs
 
 returns-2 : tie.Need-returns-2
-unfolding headingAnswer
+unfolding heading-checks
 returns-2 c = let one = c .before .before .before in
     rw (held (one .before .in-range .ensures) (one .if1 .left), failed (c .before .in-range2 .ensures) (c .if2 .taken))
 
@@ -49,7 +49,7 @@ in-range-requires-3 : tie.Need-in-range-requires-3
 in-range-requires-3 c κs = search needs
 
 returns-3 : tie.Need-returns-3
-unfolding headingAnswer
+unfolding heading-checks
 returns-3 c = let two = c .before .before .before .before .before in
     let one = two .before .before .before in
     rw (
@@ -69,7 +69,7 @@ in-range-requires-4 : tie.Need-in-range-requires-4
 in-range-requires-4 c κs = search needs
 
 returns-4 : tie.Need-returns-4
-unfolding headingAnswer
+unfolding heading-checks
 returns-4 c = let three = c .before .before .before in
     let two = three .before .before .before .before .before in
     let one = two .before .before .before in
@@ -82,7 +82,7 @@ returns-4 c = let three = c .before .before .before in
     )
 
 returns-5 : tie.Need-returns-5
-unfolding headingAnswer
+unfolding heading-checks
 returns-5 c = let three = c .before .before .before in
     let two = three .before .before .before .before .before in
     let one = two .before .before .before in

@@ -1,5 +1,5 @@
-use Rattle.policy.proofs.Line.{held, failed}
 -- Invariant: the first i lines are accepted and read (`UpTo`). A line that fails refuses all, since the answer of the lines keeps its first refusal. Assumes nothing.
+use Rattle.policy.proofs.Line.{held, failed}
 use Rattle.policy.proofs.Lines.{UpTo, nothing-read, cut, bad, one-line, refused-lines, read-lines}
 use borrow.Author.Tests.{leb-true}
 use borrow.Author.Needs.{needs}
