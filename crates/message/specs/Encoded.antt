@@ -11,6 +11,7 @@ use Rattle.encoding.specs.Layout.{follows, Laid}
 use Rattle.policy.specs.declared.Sizes.{Sizes}
 use Rattle.message.specs.declared.Event.{Event}
 use Rattle.message.specs.declared.Event.the-variants.{Observation, Alive}
+use Rattle.message.specs.Format.{widths}
 
 -- how many marks a mark map names: "the mark map's bit k names mark k"
 abbrev pub ones : ℕ → ℕ
@@ -34,10 +35,6 @@ pub data Is-event (z : Sizes) : ℕ → ℕ → ℕ → ℕ → ℕ → Event �
 abbrev pub is-alive-event : Event → Bool
 is-alive-event (Observation minute number named values) = false
 is-alive-event (Alive minute number) = true
-
--- "Bit 0 station (1 byte), bit 1 minute (2), bit 2 count (2), bit 3 mark map (4)"
-abbrev pub widths : List ℕ
-widths = 1 ∷ 2 ∷ 2 ∷ 4 ∷ []
 
 -- the number in n bytes at a place, the lowest byte first
 abbrev pub bytes-at : List ℕ → ℕ → ℕ → ℕ

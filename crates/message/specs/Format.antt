@@ -1,17 +1,18 @@
 -- 01, "The slip", as functions of the bytes. Each definition opens with its sentence.
 use Prim.Native.Nat.{ℕ, _+_, _/_, _^_}
 use mathlib.Core.Bool.{Bool, cond, _&&_}
-use mathlib.Core.List.{List}
+use mathlib.Core.List.{List, [], _∷_}
 use lib.Dec.{eqb, ltb, leb}
 use lib.ListN.{getD, length}
 use Rattle.bits.specs.Digits.{below, expanded}
-use Rattle.encoding.specs.Fields.{has, size, longOf, field8, field16, field32, written}
+use Rattle.encoding.specs.Fields.{has, longOf, field8, written}
+use Rattle.encoding.specs.Layout.{start, extent, field}
 use Rattle.refusal.specs.declared.Refusal.{Refusal}
 use Rattle.refusal.specs.declared.Refusal.the-variants.{TruncatedMessage, BadMessage}
 use Rattle.policy.specs.declared.Sizes.{Sizes}
 use Rattle.refusal.specs.declared.Answer.{Answer}
 use Rattle.refusal.specs.declared.Answer.the-variants.{Accepted, Refused}
-use Rattle.policy.specs.Chained.{check}
+use Rattle.refusal.specs.Checks.{Check, check, first-failed}
 use Rattle.message.specs.declared.Fields.{Fields}
 use Rattle.message.specs.declared.Event.{Event}
 use Rattle.message.specs.declared.Event.the-variants.{Observation, Alive}
@@ -24,32 +25,35 @@ use Rattle.message.specs.declared.Length.the-variants.{Whole, EndsEarly}
 abbrev pub mapOf : List ℕ → ℕ
 mapOf s = getD s 0 0
 
--- "A bit map, then fields: bit 0 station (1 byte), bit 1 minute (2), bit 2 count (2), bit 3 mark map (4) followed by its values":
--- where each of them starts
+-- "A bit map, then fields: bit 0 station (1 byte), bit 1 minute (2), bit 2 count (2), bit 3 mark map (4)": how many bytes each takes
+abbrev pub widths : List ℕ
+widths = 1 ∷ 2 ∷ 2 ∷ 4 ∷ []
+
+-- where the minute, the sequence number (count) and the mark map start; the mark map is "followed by its values"
 abbrev pub minuteAt : ℕ → ℕ
-minuteAt map = 1 + size (has map 0) 1
+minuteAt map = start widths map 0 1
 
 abbrev pub numberAt : ℕ → ℕ
-numberAt map = minuteAt map + size (has map 1) 2
+numberAt map = start widths map 0 2
 
 abbrev pub namedAt : ℕ → ℕ
-namedAt map = numberAt map + size (has map 2) 2
+namedAt map = start widths map 0 3
 
 abbrev pub valuesAt : ℕ → ℕ
-valuesAt map = namedAt map + size (has map 3) 4
+valuesAt map = extent widths map
 
 unfoldable pub componentOf : List ℕ → ℕ
-componentOf s = field8 s (has (mapOf s) 0) 1
+componentOf s = field widths s 0 0
 
 unfoldable pub minuteOf : List ℕ → ℕ
-minuteOf s = field16 s (has (mapOf s) 1) (minuteAt (mapOf s))
+minuteOf s = field widths s 0 1
 
 unfoldable pub numberOf : List ℕ → ℕ
-numberOf s = field16 s (has (mapOf s) 2) (numberAt (mapOf s))
+numberOf s = field widths s 0 2
 
 -- "The mark map's bit k names mark k"
 unfoldable pub namedOf : List ℕ → ℕ
-namedOf s = field32 s (has (mapOf s) 3) (namedAt (mapOf s))
+namedOf s = field widths s 0 3
 
 -- "If n marks are named, the values are n/8 bytes rounded up"
 abbrev pub valueBytes : ℕ → ℕ
@@ -116,12 +120,15 @@ goodMessage z s = goodFields z (fieldsOf s)
 -- ---- the answer
 
 -- 7 where it ends early, at its length, or where bytes follow, at the first of them; then 8
-unfoldable pub answerOf : Sizes → List ℕ → Answer
-answerOf z s =
+abbrev pub message-checks : Sizes → List ℕ → List Check
+message-checks z s =
     check (leb (lengthOf s) (length s)) (TruncatedMessage (length s))
-    (check (eqb (lengthOf s) (length s)) (TruncatedMessage (lengthOf s))
-    (check (goodMessage z s) BadMessage
-    Accepted))
+    ∷ check (eqb (lengthOf s) (length s)) (TruncatedMessage (lengthOf s))
+    ∷ check (goodMessage z s) BadMessage
+    ∷ []
+
+unfoldable pub answerOf : Sizes → List ℕ → Answer
+answerOf z s = first-failed (message-checks z s)
 
 -- "A slip read is either an observation or an alive"
 unfoldable pub eventIn : Fields → Event

@@ -16,78 +16,65 @@ use Rattle.refusal.specs.declared.Refusal.the-variants.{TruncatedMessage, BadMe
 use Rattle.policy.specs.declared.Sizes.{Sizes}
 use Rattle.refusal.specs.declared.Answer.{Answer}
 use Rattle.refusal.specs.declared.Answer.the-variants.{Accepted, Refused}
-use Rattle.policy.specs.Chained.{check}
+use Rattle.refusal.specs.Checks.{Refuses, here, there, Passed, pass, none}
+use Rattle.refusal.specs.Laws.{refusal-law, passing-law}
 use Rattle.message.specs.declared.Fields.{Fields}
 use Rattle.message.specs.declared.Event.the-variants.{Observation, Alive}
-use Rattle.message.specs.Format.{mapOf, componentOf, fieldsOf, namedOf, packedOf, valuesOf, lengthOf, goodAlive, goodObservation, allWritten, goodFields, goodMessage, eventIn, answerOf, withAnswer, decodeOf}
+use Rattle.message.specs.Format.{mapOf, componentOf, fieldsOf, namedOf, packedOf, valuesOf, lengthOf, goodAlive, goodObservation, allWritten, goodFields, goodMessage, message-checks, eventIn, answerOf, withAnswer, decodeOf}
 use Rattle.message.specs.Fixes.{Well-formed, meaningOf, Fits-event, Fits}
 use Rattle.message.specs.Proper.{Cut, early, extra, Causes}
 
 -- ---- each answer and its cause
 
-pub data Outcome (z : Sizes) (s : List ℕ) : Answer → Type 0 where
-  short : length s < lengthOf s → Outcome z s (Refused (TruncatedMessage (length s)))
-  long : lengthOf s < length s → Outcome z s (Refused (TruncatedMessage (lengthOf s)))
-  bad : length s ≡ lengthOf s → goodMessage z s ≡ false → Outcome z s (Refused BadMessage)
-  good : length s ≡ lengthOf s → goodMessage z s ≡ true → Outcome z s Accepted
-
--- the answer has one of the causes
-pub outcome : (z : Sizes) (s : List ℕ) → Outcome z s (answerOf z s)
-unfolding answerOf
-outcome z s = go (leb (lengthOf s) (length s)) refl (eqb (lengthOf s) (length s)) refl (goodMessage z s) refl
-  where
-    go : (a : Bool) → leb (lengthOf s) (length s) ≡ a → (b : Bool) → eqb (lengthOf s) (length s) ≡ b → (g : Bool) → goodMessage z s ≡ g → Outcome z s (check a (TruncatedMessage (length s)) (check b (TruncatedMessage (lengthOf s)) (check g BadMessage Accepted)))
-    go false p b q g e = short (leb-false _ _ p)
-    go true p false q g e = let n : (lengthOf s ≡ length s → ⊥) = eqb-false (lengthOf s) (length s) q in long (omega (arith, leb-true (lengthOf s) (length s) p))
-    go true p true q false e = bad (sym (eqb-true _ _ q)) e
-    go true p true q true e = good (sym (eqb-true _ _ q)) e
-
--- and each cause has its answer
-pub answers : {z : Sizes} {s : List ℕ} {a : Answer} → Outcome z s a → answerOf z s ≡ a
-unfolding answerOf
-answers {s = s} (short h) = simp (lt-leb (lengthOf s) (length s) h)
-answers {s = s} (long h) = simp (le-leb (lengthOf s) (length s) (omega arith), ne-eqb (lengthOf s) (length s) (λ e. omega arith))
-answers {s = s} (bad e g) = simp (le-leb (lengthOf s) (length s) (omega arith), eq-eqb (lengthOf s) (length s) (sym e), g)
-answers {s = s} (good e g) = simp (le-leb (lengthOf s) (length s) (omega arith), eq-eqb (lengthOf s) (length s) (sym e), g)
-
 module _ (z : Sizes) (s : List ℕ) where
-  cut : (at : ℕ) {a : Answer} → Outcome z s a → a ≡ Refused (TruncatedMessage at) → Cut s at
-  cut at (short h) e = let q : length s ≡ at = cc in subst (Cut s) q (early h)
-  cut at (long h) e = let q : lengthOf s ≡ at = cc in subst (Cut s) q (extra h)
-  cut at (bad q g) e = let n : _≡_ {A = ℕ} 0 1 = cc in absurd (omega arith)
-  cut at (good q g) e = let n : _≡_ {A = ℕ} 0 1 = cc in absurd (omega arith)
+  cut : (at : ℕ) → Refuses (message-checks z s) (TruncatedMessage at) → Cut s at
+  cut at (here p) = early (leb-false _ _ p)
+  cut at (there p (here q)) =
+      let n : (lengthOf s ≡ length s → ⊥) = eqb-false (lengthOf s) (length s) q in
+      extra (omega (arith, leb-true (lengthOf s) (length s) p))
+  cut at (there p (there q (there g n))) = elim n [ ]
 
-  uncut : {at : ℕ} → Cut s at → answerOf z s ≡ Refused (TruncatedMessage at)
-  uncut (early h) = answers (short h)
-  uncut (extra h) = answers (long h)
+  uncut : {at : ℕ} → Cut s at → Refuses (message-checks z s) (TruncatedMessage at)
+  uncut (early h) = here (lt-leb _ _ h)
+  uncut (extra h) = there (le-leb (lengthOf s) (length s) (omega arith)) (here (ne-eqb (lengthOf s) (length s) (λ e. omega arith)))
 
-  broken : {a : Answer} → Outcome z s a → a ≡ Refused BadMessage → (length s ≡ lengthOf s) × (goodMessage z s ≡ false)
-  broken (short h) e = let n : _≡_ {A = ℕ} 0 1 = cc in absurd (omega arith)
-  broken (long h) e = let n : _≡_ {A = ℕ} 0 1 = cc in absurd (omega arith)
-  broken (bad q g) e = (q, g)
-  broken (good q g) e = let n : _≡_ {A = ℕ} 0 1 = cc in absurd (omega arith)
+  broken : Refuses (message-checks z s) BadMessage → (length s ≡ lengthOf s) × (goodMessage z s ≡ false)
+  broken (there p (there q (here g))) = (sym (eqb-true _ _ q), g)
 
-  kept : {a : Answer} → Outcome z s a → a ≡ Accepted → (length s ≡ lengthOf s) × (goodMessage z s ≡ true)
-  kept (short h) e = let n : _≡_ {A = ℕ} 0 1 = cc in absurd (omega arith)
-  kept (long h) e = let n : _≡_ {A = ℕ} 0 1 = cc in absurd (omega arith)
-  kept (bad q g) e = let n : _≡_ {A = ℕ} 0 1 = cc in absurd (omega arith)
-  kept (good q g) e = (q, g)
+  kept : Passed (message-checks z s) → (length s ≡ lengthOf s) × (goodMessage z s ≡ true)
+  kept (pass p (pass q (pass g none))) = (sym (eqb-true _ _ q), g)
+
+  module _ (e : length s ≡ lengthOf s) where
+    whole-enough : leb (lengthOf s) (length s) ≡ true
+    whole-enough = le-leb (lengthOf s) (length s) (omega arith)
+
+    none-after : eqb (lengthOf s) (length s) ≡ true
+    none-after = eq-eqb (lengthOf s) (length s) (sym e)
+
+    pub refuses : goodMessage z s ≡ false → answerOf z s ≡ Refused BadMessage
+    unfolding answerOf
+    refuses g = refusal-law (message-checks z s) BadMessage .1 (there whole-enough (there none-after (here g)))
+
+    pub takes : goodMessage z s ≡ true → answerOf z s ≡ Accepted
+    unfolding answerOf
+    takes g = passing-law (message-checks z s) .1 (pass whole-enough (pass none-after (pass g none)))
 
   pub causes : Causes z s
+  unfolding answerOf
   causes = record {
-    seven = λ at. (λ e. cut at (outcome z s) e, λ c. uncut c);
-    eight = (λ e. broken (outcome z s) e, λ h. answers (bad (h .0) (h .1)));
-    accepted = (λ e. kept (outcome z s) e, λ h. answers (good (h .0) (h .1)));
+    seven = λ at. (
+      λ e. cut at (refusal-law (message-checks z s) (TruncatedMessage at) .0 e),
+      λ c. refusal-law (message-checks z s) (TruncatedMessage at) .1 (uncut c),
+    );
+    eight = (λ e. broken (refusal-law (message-checks z s) BadMessage .0 e), λ h. refuses (h .0) (h .1));
+    accepted = (λ e. kept (passing-law (message-checks z s) .0 e), λ h. takes (h .0) (h .1));
   }
-
-  pub whole : Well-formed z s → length s ≡ lengthOf s
-  whole w = kept (outcome z s) w .0
 
 -- ---- what is decoded
 
-pub decodes : {z : Sizes} {s : List ℕ} {a : Answer} → Outcome z s a → decodeOf z s ≡ withAnswer a s
+pub decodes : (z : Sizes) (s : List ℕ) (a : Answer) → answerOf z s ≡ a → decodeOf z s ≡ withAnswer a s
 unfolding decodeOf
-decodes {s = s} o = ap (λ (a : Answer). withAnswer a s) (answers o)
+decodes z s a e = ap (λ (x : Answer). withAnswer x s) e
 
 pub decoded : (z : Sizes) (s : List ℕ) → Well-formed z s → decodeOf z s ≡ record { answer = Accepted; component = meaningOf s .component; event = meaningOf s .event }
 unfolding decodeOf meaningOf fieldsOf
@@ -143,7 +130,7 @@ module _ (z : Sizes) (few : z .propositions ≤ 32) where
   pub fits : (s : List ℕ) → Well-formed z s → Fits z (meaningOf s)
   unfolding goodFields meaningOf fieldsOf
   fits s w =
-      let map = both (ltb (mapOf s) 32) _ (kept z s (outcome z s) w .1) in
+      let map = both (ltb (mapOf s) 32) _ (causes z s .accepted .0 w .1) in
       let fields = both (allWritten (fieldsOf s)) _ (map .1) in
       let component = both (ltb (componentOf s) (z .components)) _ (fields .1) in
       record { component-in = ltb-true _ _ (component .0); event-in = event-fits (fieldsOf s) (component .1) }

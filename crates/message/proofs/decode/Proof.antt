@@ -1,11 +1,12 @@
--- Each return is one outcome (`Laws`): the length tells the first two, the rules the last two. Assumes nothing.
+-- Each return is the answer to its cause (`Laws`): the length tells the first two, the rules the last two. Assumes nothing.
 use mathlib.Core.Path.{sym, ap, subst, _∙_}
 use Prim.Native.Nat.{ℕ}
 use native.Mathlib.Omega.{arith}
 use borrow.Author.Tests.{not-true, not-false}
 use Rattle.refusal.specs.declared.Refusal.the-variants.{TruncatedMessage}
 use Rattle.message.specs.Format.{goodFields, refusedWith}
-use Rattle.message.specs.Laws.{short, long, bad, good, decodes}
+use Rattle.message.specs.Laws.{refuses, takes, causes, decodes}
+use Rattle.message.specs.Proper.{early, extra}
 use Rattle.message.proofs.Reading.{Told, told, accepted}
 use borrow.Author.Needs.{needs}
 use Rattle.message.proofs.decode.Statement.{statement}
@@ -30,7 +31,8 @@ returns : tie.Need-returns
 returns c =
     let s = c .before .before .before .before .before .before .before .args .s .now in
     let t = subst (Told s) (sym (c .before .before .before .before .before .measure .ensures) ∙ c .before .before .before .whole .given .1) (told s) in
-    c .refused2 .ensures ∙ ap (λ (n : ℕ). refusedWith (TruncatedMessage n)) (t .0) ∙ sym (decodes (long (omega arith)))
+    let z = c .before .before .before .before .before .before .before .args .sizes in
+    c .refused2 .ensures ∙ ap (λ (n : ℕ). refusedWith (TruncatedMessage n)) (t .0) ∙ sym (decodes z s _ (causes z s .seven _ .1 (extra (omega arith))))
 
 fields-of-requires : tie.Need-fields-of-requires
 fields-of-requires c κs =
@@ -48,7 +50,8 @@ returns-2 : tie.Need-returns-2
 returns-2 c =
     let s = c .before .before .before .before .before .before .before .before .before .before .args .s .now in
     let t = subst (Told s) (sym (c .before .before .before .before .before .before .before .before .measure .ensures) ∙ c .before .before .before .before .before .before .whole .given .1) (told s) in
-    c .refused3 .ensures ∙ sym (decodes (bad (omega arith) (ap (goodFields (c .before .before .before .before .before .before .before .before .before .before .args .sizes)) (sym (c .before .before .before .fields-of .ensures)) ∙ sym (c .before .before .good-message .ensures) ∙ not-true _ (c .before .if2 .taken))))
+    let z = c .before .before .before .before .before .before .before .before .before .before .args .sizes in
+    c .refused3 .ensures ∙ sym (decodes z s _ (refuses z s (omega arith) (ap (goodFields z) (sym (c .before .before .before .fields-of .ensures)) ∙ sym (c .before .before .good-message .ensures) ∙ not-true _ (c .before .if2 .taken))))
 
 event-of-requires : tie.Need-event-of-requires
 event-of-requires c κs = search needs
@@ -60,13 +63,15 @@ returns-3 : tie.Need-returns-3
 returns-3 c =
     let s = c .before .before .before .before .before .args .s .now in
     let t = subst (Told s) (sym (c .before .before .before .measure .ensures) ∙ c .before .enum-told .given .1) (told s) in
-    c .refused .ensures ∙ sym (decodes (short t))
+    let z = c .before .before .before .before .before .args .sizes in
+    c .refused .ensures ∙ sym (decodes z s _ (causes z s .seven _ .1 (early t)))
 
 returns-4 : tie.Need-returns-4
 returns-4 c =
     let s = c .before .before .before .before .before .before .before .before .before .before .before .args .s .now in
     let t = subst (Told s) (sym (c .before .before .before .before .before .before .before .before .before .measure .ensures) ∙ c .before .before .before .before .before .before .before .whole .given .1) (told s) in
-    accepted (c .before .event-of .ensures) (c .before .before .before .before .fields-of .ensures) ∙ sym (decodes (good (omega arith) (ap (goodFields (c .before .before .before .before .before .before .before .before .before .before .before .args .sizes)) (sym (c .before .before .before .before .fields-of .ensures)) ∙ sym (c .before .before .before .good-message .ensures) ∙ not-false _ (c .before .before .if2 .left))))
+    let z = c .before .before .before .before .before .before .before .before .before .before .before .args .sizes in
+    accepted (c .before .event-of .ensures) (c .before .before .before .before .fields-of .ensures) ∙ sym (decodes z s _ (takes z s (omega arith) (ap (goodFields z) (sym (c .before .before .before .before .fields-of .ensures)) ∙ sym (c .before .before .before .good-message .ensures) ∙ not-false _ (c .before .before .if2 .left))))
 
 pub decode-spec : {M : Type 1} → statement M
 decode-spec =
