@@ -2,11 +2,12 @@
 pub mod Trace
 pub mod Knowledge
 pub mod Pins
-pub mod Numbers
 pub mod Laws
 pub mod Store
+pub mod Counts
 pub mod Witness
 pub mod Conflict
 pub mod Worlds
+pub mod Exact
 pub mod Run
 pub mod Runs

@@ -12,7 +12,7 @@ use Rattle.knowledge.specs.Trace.{Trace, made, time-point, trace-world}
 use Rattle.mtl.specs.Folds.{some-below, none-below}
 use Rattle.policy.specs.declared.Sizes.{Sizes}
 use Rattle.knowledge.specs.Laws.{point-law, none-law}
-use Rattle.knowledge.specs.Witness.{tally-far}
+use Rattle.knowledge.specs.Counts.{tally-count}
 
 false-of : (b : Bool) → (b ≡ true → ⊥) → b ≡ false
 false-of true h = absurd (h refl)
@@ -102,7 +102,7 @@ module _ (c : Sizes) where
         go true e = e
         go false e = absurd (omega (arith, seen (b .component) t false e, b .apart, g .numbers (b .component) t (b .is-component) (omega arith) (b .before), g .numbers (b .component) (suc t) (b .is-component) h (b .after)))
 
-    none-so : (t : ℕ) → t < c .minutes → Known-none c k t → time-point c w t ≡ false
+    pub none-so : (t : ℕ) → t < c .minutes → Known-none c k t → time-point c w t ≡ false
     none-so t h q = none-below (c .components) (λ s. w .observes s t) (λ s l. go s l (w .observes s t) refl)
       where
         go : (s : ℕ) → s < c .components → (x : Bool) → w .observes s t ≡ x → w .observes s t ≡ false
@@ -115,8 +115,8 @@ module _ (c : Sizes) where
               v .equal,
               g .numbers s (v .early) l (omega (arith, v .early-before)) (v .early-known),
               g .numbers s (v .late) l (v .late-in) (v .late-known),
-              tally-far (w .observes s) (v .early) t (v .early-before) .0,
-              tally-far (w .observes s) (suc t) (v .late) (v .late-after) .0,
+              tally-count (w .observes s) .near (v .early) t,
+              tally-count (w .observes s) .near (suc t) (v .late),
             ))
 
     -- what the knowledge tells is so
