@@ -10,8 +10,8 @@ use lib.ListN.{getD, length, take, drop}
 use Rattle.policy.specs.declared.Sizes.{Sizes}
 use Rattle.message.specs.declared.Event.the-variants.{Observation, Alive}
 use Rattle.message.specs.Fixes.{Fits}
-use Rattle.knowledge.specs.Knowledge.{number, Sound, Sized, admits}
-use Rattle.knowledge.specs.Run.{cell, held, sent, Steady, may, words-agree}
+use Rattle.knowledge.specs.Knowledge.{number, Sound, Sized, admits, Steady, words-agree}
+use Rattle.knowledge.specs.Run.{cell, held, sent, may}
 use Rattle.knowledge.specs.Runs.{runs-of}
 use Rattle.knowledge.proofs.Parts.{part-long, part-is-steady, part-may}
 use Rattle.knowledge.proofs.Admits.{admits-observation, admits-alive}

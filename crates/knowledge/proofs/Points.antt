@@ -14,8 +14,8 @@ use Rattle.mtl.specs.Algebra as algebra
 use Rattle.rows.specs.Over.{Over}
 use Rattle.rows.specs.Laws.{two}
 use Rattle.policy.specs.declared.Sizes.{Sizes}
-use Rattle.knowledge.specs.Knowledge.{Knowledge, number, is-point, is-none, point-known}
-use Rattle.knowledge.specs.Run.{run-of, rises, level, told}
+use Rattle.knowledge.specs.Knowledge.{Knowledge, number, is-point, is-none, point-known, run-of, rises, level}
+use Rattle.knowledge.specs.Run.{told}
 
 -- the row with what run f tells
 abbrev pub joined : (ℕ → ℕ) → ℕ → List ℕ → ℕ → ℕ

@@ -6,8 +6,8 @@ use Prim.Native.Nat.{ℕ, _+_, _-_, _≤_, _<_}
 use native.Mathlib.Nat.{eq-or-lt-of-le}
 use native.Mathlib.Omega.{arith}
 use Rattle.rows.specs.Laws.{lt-or-le}
-use Rattle.knowledge.specs.Knowledge.{none}
-use Rattle.knowledge.specs.Run.{Follow, Steady, Next}
+use Rattle.knowledge.specs.Knowledge.{none, Follow, Steady}
+use Rattle.knowledge.specs.Run.{Next}
 
 -- the run is steady up to p, which is known
 pub record Walked (f : ℕ → ℕ) (p : ℕ) : Type 0 where

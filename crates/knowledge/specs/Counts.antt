@@ -10,8 +10,8 @@ use mathlib.Core.Bool.{Bool, true, false, cond}
 use lib.Dec.{ltb}
 use borrow.Author.Tests.{ltb-true, ltb-false, lt-ltb}
 use Rattle.knowledge.specs.Trace.{tally}
-use Rattle.knowledge.specs.Knowledge.{none}
-use Rattle.knowledge.specs.Run.{Steady, Flat}
+use Rattle.knowledge.specs.Knowledge.{none, Steady, Level}
+use Rattle.knowledge.specs.Runs.{near}
 
 -- g counts what a place has or has not. From place b to place a it goes up by no more than a - b, which is 0 where a is not later: this one order says
 -- that it never falls and that it goes up by at most one a place
@@ -76,20 +76,11 @@ abbrev pub raised : (ℕ → ℕ) → ℕ → ℕ → ℕ → ℕ
 raised f m t p = min (largest f m p) (largest f m (suc t) - 1 + (p - t))
 
 module _ (f : ℕ → ℕ) (m : ℕ) (S : Steady f (suc m)) where
-  -- what the run says of two known places, in either order
-  pairs : (a b : ℕ) → a ≤ m → b ≤ m → f a < none → f b < none → f a ≤ f b + (a - b)
-  pairs a b i j x y = go (decLt a b) (decLt b a)
-    where
-      go : Dec (a < b) → Dec (b < a) → f a ≤ f b + (a - b)
-      go (yes d) e = omega (arith, S .pairs b (omega arith) a d x y)
-      go (no d) (yes e) = omega (arith, S .pairs a (omega arith) b e y x)
-      go (no d) (no e) = let same : a ≡ b = omega arith in rw same (omega arith)
-
   above : (p : ℕ) → p ≤ m → f p < none → (q : ℕ) → q ≤ m → f p ≤ f q + (p - q)
   above p l k q i = go (decLt (f q) none)
     where
       go : Dec (f q < none) → f p ≤ f q + (p - q)
-      go (yes known) = pairs p q l i k known
+      go (yes known) = near f (suc m) S p q (omega arith) (omega arith) k known
       go (no unknown) = omega arith
 
   pub largest-through : Through f m (largest f m)
@@ -98,15 +89,15 @@ module _ (f : ℕ → ℕ) (m : ℕ) (S : Steady f (suc m)) where
     there = λ p l k. omega (arith, largest-below f m p l, largest-above f m p (f p) (above p l k));
   }
 
-  module _ (t : ℕ) (open-there : Flat f m t → ⊥) where
+  module _ (t : ℕ) (open-there : Level f m t → ⊥) where
     -- a number before minute t leaves room for one more after it
     room : (p : ℕ) → p ≤ t → p ≤ m → f p < none → f p < largest f m (suc t)
     room p d l k = largest-above f m (suc t) (suc (f p)) (λ q i. each q i (decLt (f q) none) (decLe q t))
       where
         each : (q : ℕ) → q ≤ m → Dec (f q < none) → Dec (q ≤ t) → suc (f p) ≤ f q + (suc t - q)
         each q i (no unknown) e = omega arith
-        each q i (yes known) (yes e) = omega (arith, pairs p q l i k known)
-        each q i (yes known) (no e) = omega (arith, pairs p q l i k known, apart)
+        each q i (yes known) (yes e) = omega (arith, near f (suc m) S p q (omega arith) (omega arith) k known)
+        each q i (yes known) (no e) = omega (arith, near f (suc m) S p q (omega arith) (omega arith) k known, apart)
           where
             apart : f p ≡ f q → ⊥
             apart r = open-there (record {

@@ -1,6 +1,6 @@
 -- In sound knowledge a minute is known quiet exactly when it is quiet in every trace that agrees. That a minute known busy is busy in every such trace
 -- is `point-so` of Worlds.
-use Prim.Native.Nat.{ℕ, suc, _<_}
+use Prim.Native.Nat.{ℕ, _<_}
 use mathlib.Core.Path.{_≡_, refl, sym, _∙_}
 use mathlib.Core.Bool.{Bool, true, false, cond, true≢false}
 use mathlib.Core.Logic.{_↔_}
@@ -9,9 +9,8 @@ use Rattle.mtl.specs.Folds.{some-below}
 use Rattle.decide.specs.Laws.{fails}
 use Rattle.policy.specs.declared.Sizes.{Sizes}
 use Rattle.knowledge.specs.Trace.{Trace, time-point}
-use Rattle.knowledge.specs.Knowledge.{Knowledge, number, Sound, Agrees, Level, Known-none}
-use Rattle.knowledge.specs.Run.{Steady, level, Flat}
-use Rattle.knowledge.specs.Runs.{level-decides, runs-of}
+use Rattle.knowledge.specs.Knowledge.{Level, level, Knowledge, number, Sound, Agrees, Known-none}
+use Rattle.knowledge.specs.Runs.{level-decides}
 use Rattle.knowledge.specs.Counts.{counted, Through, largest, raised, largest-through, raised-through, raised-at}
 use Rattle.knowledge.specs.Witness.{trace-of, trace-agrees}
 use Rattle.knowledge.specs.Worlds.{none-so}
@@ -25,46 +24,30 @@ module _ (z : Sizes) (k : Knowledge) (sound : Sound z k) (t : ℕ) (inside : t <
   abbrev run : ℕ → ℕ → ℕ
   run c = number z k c
 
-  steady-run : (c : ℕ) → c < z .components → Steady (run c) (suc (z .minutes))
-  unfolding number
-  steady-run c l = runs-of z k sound c l
-
   -- the counts that make all the observations in minute t that the numbers leave room for
   abbrev most : ℕ → ℕ → ℕ
   most c = cond (level (run c) (z .minutes) t) (largest (run c) (z .minutes)) (raised (run c) (z .minutes) t)
 
   most-agrees : Agrees z (trace-of z k most) k
   most-agrees = trace-agrees z k most (λ c l. chosen (Through (run c) (z .minutes)) (level (run c) (z .minutes) t) _ _
-      (largest-through (run c) (z .minutes) (steady-run c l))
-      (λ e. raised-through (run c) (z .minutes) (steady-run c l) t (fails (level-decides (run c) (z .minutes) t) e)))
+      (largest-through (run c) (z .minutes) (sound .runs c l))
+      (λ e. raised-through (run c) (z .minutes) (sound .runs c l) t (fails (level-decides (run c) (z .minutes) t) e)))
 
-  most-at : (c : ℕ) → c < z .components → trace-of z k most .observes c t ≡ false → Flat (run c) (z .minutes) t
+  most-at : (c : ℕ) → c < z .components → trace-of z k most .observes c t ≡ false → Level (run c) (z .minutes) t
   most-at c l e = go (level (run c) (z .minutes) t) refl (rw (lt-ltb t (z .minutes) inside) at e)
     where
       go : (b : Bool) → level (run c) (z .minutes) t ≡ b → counted (cond b (largest (run c) (z .minutes)) (raised (run c) (z .minutes) t)) t ≡ false
-          → Flat (run c) (z .minutes) t
+          → Level (run c) (z .minutes) t
       go true f x = level-decides (run c) (z .minutes) t .sound f
       go false f x =
-          absurd (true≢false (sym (raised-at (run c) (z .minutes) (steady-run c l) t (fails (level-decides (run c) (z .minutes) t) f)) ∙ x))
+          absurd (true≢false (sym (raised-at (run c) (z .minutes) (sound .runs c l) t (fails (level-decides (run c) (z .minutes) t) f)) ∙ x))
 
   pub quiet-exact : Known-none z k t ↔ ((w : Trace z) → Agrees z w k → time-point z w t ≡ false)
   quiet-exact = (λ q w g. none-so z w k g t inside q, back)
     where
       back : ((w : Trace z) → Agrees z w k → time-point z w t ≡ false) → Known-none z k t
-      back h c l = level-of (most-at c l (go (trace-of z k most .observes c t) refl))
+      back h c l = most-at c l (go (trace-of z k most .observes c t) refl)
         where
           go : (b : Bool) → trace-of z k most .observes c t ≡ b → trace-of z k most .observes c t ≡ false
           go false e = e
           go true e = absurd (true≢false (sym (some-below (z .components) (λ c. trace-of z k most .observes c t) c l e) ∙ h (trace-of z k most) most-agrees))
-
-          level-of : Flat (run c) (z .minutes) t → Level z k c t
-          level-of v = record {
-            early = v .early;
-            late = v .late;
-            early-before = v .early-before;
-            late-after = v .late-after;
-            late-in = v .late-in;
-            early-known = v .early-known;
-            late-known = v .late-known;
-            equal = v .equal;
-          }

@@ -9,7 +9,7 @@ use Rattle.bits.specs.Bits.{bit}
 use Rattle.policy.specs.declared.Sizes.{Sizes}
 use Rattle.message.specs.declared.Event.{Event}
 use Rattle.message.specs.declared.Event.the-variants.{Observation, Alive}
-use Rattle.knowledge.specs.Knowledge.{Knowledge, none, noted, valued, fact, number, is-point, is-none, sound, point-known, fresh, stored}
+use Rattle.knowledge.specs.Knowledge.{Knowledge, none, follow, steady, rises, level, word-sound, noted, valued, fact, number, is-point, is-none, sound, point-known, fresh, stored}
 
 -- one proposition, n components, four minutes: a run has five places, the first of which stands for "before minute 0"
 abbrev sizes : ℕ → Sizes
@@ -128,7 +128,7 @@ pub record Pins : Type 0 where
   pub beyond-policy : is-corrupt silent 2 0
 
 pub pins : Pins
-unfolding bit noted valued number is-point is-none sound fresh stored
+unfolding bit follow steady rises level word-sound noted valued number is-point is-none sound fresh stored
 pins = record {
   quiet-across-gap = refl;
   quiet-to-the-last = refl;

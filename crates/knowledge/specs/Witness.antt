@@ -8,7 +8,6 @@ use borrow.Author.Tests.{lt-ltb, le-ltb}
 use Rattle.policy.specs.declared.Sizes.{Sizes}
 use Rattle.knowledge.specs.Trace.{tally, Trace}
 use Rattle.knowledge.specs.Knowledge.{Knowledge, valued, number, Sound, Agrees}
-use Rattle.knowledge.specs.Runs.{runs-of}
 use Rattle.knowledge.specs.Counts.{counted, tally-counted, Through, largest, largest-through}
 
 -- observations from minute m on do not show before it
@@ -33,5 +32,4 @@ module _ (z : Sizes) (k : Knowledge) where
   }
 
   pub agreed : Sound z k → (w : Trace z) × Agrees z w k
-  unfolding number
-  agreed s = (_, trace-agrees (λ c. largest (number z k c) (z .minutes)) (λ c l. largest-through (number z k c) (z .minutes) (runs-of z k s c l)))
+  agreed s = (_, trace-agrees (λ c. largest (number z k c) (z .minutes)) (λ c l. largest-through (number z k c) (z .minutes) (s .runs c l)))

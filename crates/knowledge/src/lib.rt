@@ -10,9 +10,9 @@ ghost use Rattle.kleene.specs.Truth.{codeOf, valueOf, or3};
 ghost use Rattle.rows.specs.Over.{Over};
 ghost use Rattle.mtl.specs.Algebra.{two, all};
 ghost use Rattle.message.specs.Fixes.{Fits};
-ghost use Rattle.knowledge.specs.Knowledge.{none, Sized, Sound, sound, admits, stored};
+ghost use Rattle.knowledge.specs.Knowledge.{none, Sized, Sound, sound, admits, stored, run-of, follow, steady, Steady, word-sound, words-agree};
 ghost use Rattle.knowledge.specs.Laws.{Limits};
-ghost use Rattle.knowledge.specs.Run.{cell, run-of, held, sent, follow, steady, Steady, Steady-runs, told, gap, may, Next, Previous, Point-row, word-sound, words-agree};
+ghost use Rattle.knowledge.specs.Run.{cell, held, sent, Steady-runs, told, gap, may, Next, Previous, Point-row};
 
 // A sequence number that is not known.
 const NONE: u16 = 65535;
