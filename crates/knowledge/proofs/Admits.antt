@@ -4,21 +4,19 @@ use Prim.Native.Nat.{ℕ, suc, _+_, _-_, _*_, _≤_, _<_}
 use native.Mathlib.Omega.{arith}
 use native.Mathlib.Decide.{ℕ-discrete}
 use mathlib.Core.Path.{_≡_, refl, sym, ap, subst, _∙_}
-use mathlib.Core.Bool.{Bool, true, false, not, _&&_, _||_, Bool·beq}
-use mathlib.Core.Logic.{_⊎_, inl, inr}
+use mathlib.Core.Bool.{Bool, true, false, _&&_}
+use mathlib.Core.Logic.{inl, inr}
 use lib.ListN.{getD}
-use Rattle.bits.specs.Bits.{bit}
-use Rattle.mtl.specs.Algebra.{two, all}
 use Rattle.mtl.specs.Folds.{pair}
 use Rattle.decide.specs.Decide.{Decides}
 use Rattle.decide.specs.Laws.{agree, same, both}
 use Rattle.policy.specs.declared.Sizes.{Sizes}
 use Rattle.message.specs.declared.Event.the-variants.{Observation, Alive}
-use Rattle.message.specs.Fixes.{Message, Fixes-number, Fixes-fact, Fits}
+use Rattle.message.specs.Fixes.{Message, Fixes-number, Fits}
 use Rattle.knowledge.specs.Knowledge.{Steady, steady, free-place, words-agree, Knowledge, number, Sound, sound, Sized, stored, free, admits}
 use Rattle.knowledge.specs.Laws.{Free, free-law, sound-law}
 use Rattle.knowledge.specs.Store.{Number-cases, number-hit, number-either, stored-sound}
-use Rattle.knowledge.specs.Run.{sent, put, may}
+use Rattle.knowledge.specs.Run.{sent, put, may, may-observe}
 use Rattle.knowledge.specs.Runs.{steady-decides, steady-less}
 use Rattle.knowledge.proofs.Putting.{at-place, other}
 use Rattle.knowledge.proofs.Pair.{together, to-one, to-next}
@@ -94,7 +92,7 @@ module _ (z : Sizes) (k : Knowledge) (long : Sized z k) (clean : Sound z k) (c :
   pub admits-observation : (t n named values : ℕ) → Fits z (sent c (Observation t n named values))
       → admits z k (sent c (Observation t n named values))
       ≡ (words-agree (getD (k .facts) (2 * t) 0) (getD (k .facts) (2 * t + 1) 0) named values
-      && (may run (suc (z .minutes)) (suc t) n && may run (suc (z .minutes)) t (n - 1)))
+      && may-observe run (suc (z .minutes)) t n)
   unfolding admits free may
   admits-observation t n named values fits =
       regroup (free-place run (suc t) n) (free-place run t (n - 1)) (words-agree (getD (k .facts) (2 * t) 0) (getD (k .facts) (2 * t + 1) 0) named values)

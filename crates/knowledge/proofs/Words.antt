@@ -6,8 +6,7 @@ use mathlib.Core.Bool.{Bool, true, false, not, _&&_, _||_, xor, Bool·beq, true�
 use mathlib.Core.Logic.{_↔_}
 use lib.Bits.{bitAnd, bitOr, bitXor, or-lt, and-lt, xor-lt}
 use lib.Dec.{ltb, eqb}
-use Rattle.decide.specs.Decide.{Decides}
-use Rattle.decide.specs.Laws.{is-false, agree, same, itself, less, equal, both, none, implies, each, each-same}
+use Rattle.decide.specs.Laws.{is-false, agree, same, itself, less, equal, none, each, each-same}
 use Rattle.bits.specs.Bits.{bit, bit-or, bits-same}
 use Rattle.bits.specs.Masks.{bit-and, bit-xor, no-bits, low-bits}
 use Rattle.knowledge.specs.Knowledge.{word-sound, words-agree}

@@ -1,7 +1,7 @@
 -- 01, "The record and what it tells".
-use Prim.Native.Nat.{ℕ, zero, suc, _+_, _-_, _*_, _%_, _≤_, _<_}
+use Prim.Native.Nat.{ℕ, suc, _+_, _-_, _*_, _%_, _≤_, _<_}
 use mathlib.Core.Path.{_≡_}
-use mathlib.Core.Bool.{Bool, true, false, not, cond, _&&_, _||_, Bool·beq}
+use mathlib.Core.Bool.{Bool, true, not, cond, _&&_, _||_, Bool·beq}
 use mathlib.Core.List.{List}
 use lib.ListN.{getD, length, set, replicate}
 use lib.Dec.{ltb, leb, eqb}
@@ -22,6 +22,10 @@ pub record Knowledge : Type 0 where
   pub numbers : List ℕ
   -- "facts, two per minute, known marks and then their values"
   pub facts : List ℕ
+
+-- "minutes M (1 to 1,024)"
+abbrev pub most-minutes : ℕ
+most-minutes = 1024
 
 -- the code of a sequence number that is not known; a known one is below it
 abbrev pub none : ℕ

@@ -11,7 +11,7 @@ use Rattle.policy.specs.declared.Sizes.{Sizes}
 use Rattle.message.specs.declared.Event.{Event}
 use Rattle.message.specs.declared.Event.the-variants.{Observation, Alive}
 use Rattle.message.specs.Fixes.{Message, Fixes-number, Fixes-fact}
-use Rattle.knowledge.specs.Knowledge.{none, word-sound, words-agree, Knowledge, noted, valued, number, Sound, Known-point, Known-none, is-point, is-none, sound, free-event, free}
+use Rattle.knowledge.specs.Knowledge.{most-minutes, none, word-sound, words-agree, Knowledge, noted, valued, number, Sound, Known-point, Known-none, is-point, is-none, sound, free-event, free}
 use Rattle.knowledge.specs.Runs.{steady-decides, rises-decides, level-decides, free-place-decides}
 
 iff : {b : Bool} {P : Type 0} → Decides b P → (b ≡ true) ↔ P
@@ -33,7 +33,7 @@ words-decide known old named values =
 -- what the proofs need of the sizes: words of 32 bits, and numbers that stay below 65535
 pub record Limits (z : Sizes) : Type 0 where
   pub propositions-most : z .propositions ≤ 32
-  pub minutes-most : z .minutes ≤ 1024
+  pub minutes-most : z .minutes ≤ most-minutes
 
 module _ (z : Sizes) where
   pub point-law : (k : Knowledge) (t : ℕ) → (is-point z k t ≡ true) ↔ Known-point z k t

@@ -1,17 +1,15 @@
 -- The words of the functions' contracts: what is asked of one run, of a list of runs, and of the row that they tell.
-use Prim.Native.Nat.{ℕ, suc, _+_, _-_, _*_, _≤_, _<_}
+use Prim.Native.Nat.{ℕ, suc, _-_, _≤_, _<_}
 use mathlib.Core.Path.{_≡_}
-use mathlib.Core.Bool.{Bool, not, cond, _&&_, _||_, Bool·beq}
+use mathlib.Core.Bool.{Bool, cond, _&&_}
 use mathlib.Core.List.{List}
-use lib.Dec.{ltb, leb, eqb}
+use lib.Dec.{eqb}
 use lib.ListN.{getD, length}
-use Rattle.kleene.specs.Truth.{Truth, unknown, true3, false3, codeOf}
-use Rattle.mtl.specs.Algebra.{two, any, all}
-use Rattle.bits.specs.Bits.{bit}
+use Rattle.kleene.specs.Truth.{Truth, unknown, true3, false3, codeOf, valueOf, or3}
 use Rattle.policy.specs.declared.Sizes.{Sizes}
 use Rattle.message.specs.declared.Event.{Event}
 use Rattle.message.specs.Fixes.{Message}
-use Rattle.knowledge.specs.Knowledge.{Knowledge, none, run-of, Steady, steady, rises, level, free-place, point-known}
+use Rattle.knowledge.specs.Knowledge.{Knowledge, most-minutes, none, run-of, Steady, steady, rises, level, free-place, point-known}
 
 -- the run of a list
 abbrev pub cell : List ℕ → ℕ → ℕ
@@ -33,6 +31,10 @@ told f m t = cond (rises f t) true3 (cond (level f m t) false3 unknown)
 unfoldable pub gap : ℕ → ℕ → ℕ → Truth
 gap v w d = cond (eqb v w) false3 (cond (eqb d 1) true3 unknown)
 
+-- a row of truth codes, with what x tells joined to each cell by Kleene's or
+abbrev pub joined : List ℕ → (ℕ → Truth) → ℕ → ℕ
+joined row x i = codeOf (or3 (valueOf (getD row i 0)) (x i))
+
 -- the run with the number v at place p
 unfoldable pub put : (ℕ → ℕ) → ℕ → ℕ → ℕ → ℕ
 put f p v i = cond (eqb i p) v (f i)
@@ -45,6 +47,10 @@ pub record May (f : ℕ → ℕ) (n p v : ℕ) : Type 0 where
   pub small : v < none
   pub nothing-else : f p < none → f p ≡ v
   pub stored : Steady (put f p v) n
+
+-- and an observation's two numbers, each by itself
+abbrev pub may-observe : (ℕ → ℕ) → ℕ → ℕ → ℕ → Bool
+may-observe f n t v = may f n (suc t) v && may f n t (v - 1)
 
 -- r is the first known place from `from` on, or the end n
 pub record Next (f : ℕ → ℕ) (n from r : ℕ) : Type 0 where
@@ -65,6 +71,6 @@ Steady-runs z l = (c : ℕ) → c < z .components → Steady (run-of l (z .minut
 
 -- the row of the numbers: for each minute whether it is a time point, as a truth code, and 0 from the last minute on
 pub record Point-row (z : Sizes) (numbers row : List ℕ) : Type 0 where
-  pub long : length row ≡ 1024
+  pub long : length row ≡ most-minutes
   pub inside : (k : Knowledge) → k .numbers ≡ numbers → (t : ℕ) → t < z .minutes → getD row t 0 ≡ codeOf (point-known z k t)
   pub past : (t : ℕ) → z .minutes ≤ t → getD row t 0 ≡ 0

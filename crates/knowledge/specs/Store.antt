@@ -9,7 +9,7 @@ use mathlib.Core.List.{List}
 use lib.ListN.{getD, length, set, length-set}
 use lib.Seq.{getD-set-same, getD-set-other}
 use lib.Bits.{bitOr}
-use Rattle.kleene.specs.Truth.{Truth, unknown, false3, true3}
+use Rattle.kleene.specs.Truth.{unknown, false3, true3}
 use Rattle.knowledge.specs.Knowledge.{none, Steady, Knowledge, Sized, noted, valued, fact, number, Sound, put-numbers, put-facts, stored}
 use Rattle.bits.specs.Bits.{bit, bit-or}
 use Rattle.rows.specs.Grid.{same-row, same-place, in-grid}
