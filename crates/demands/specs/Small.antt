@@ -11,7 +11,7 @@ use Rattle.mtl.specs.Reading.{since, until, deep, reading}
 use Rattle.policy.specs.Format.{lineLength, fieldsAt, allowed, operandsGood, goodLine, meaning, formulaOf, subformulaOf, subformulaAt, heading-checks, offset, line-checks, lines-checks, linesUpTo, subformulasOf, ruleLines, rulesUpTo, closing-checks, policy-checks, answerOf as policy-answer, policyOf}
 use Rattle.message.specs.Format.{componentOf, minuteOf, numberOf, namedOf, packedOf, valuesOf, lengthOf, fieldsOf, goodAlive, goodObservation, allWritten, goodFields, answerOf as message-answer, eventIn}
 use Rattle.message.specs.Fixes.{meaningOf}
-use Rattle.knowledge.specs.Knowledge.{noted, valued, number, is-point, is-none, sound, fresh, stored, free, admits}
+use Rattle.knowledge.specs.Knowledge.{follow, steady, rises, level, word-sound, words-agree, noted, valued, number, is-point, is-none, sound, fresh, stored, free, admits}
 use Rattle.valuation.specs.Sheets.{valuation-of, verdicts-of, standing}
 use Rattle.monitor.specs.declared.Answer.{Answer}
 use Rattle.monitor.specs.declared.Answer.the-variants.{Done, Received, Refused}
@@ -102,7 +102,7 @@ module _ (s : List ℕ) (x : State) (e : open-state s x .state ≡ opened (polic
   reply-from bs b = ap (λ (y : State). receive s (run s y (map Receive bs)) b .answer) e
 
 pub small-shift : (x y : State) → open-state K x .answer ≡ Done → open-state U y .answer ≡ Done → Small-shift x y
-unfolding digit below expanded bit since until deep reading lineLength fieldsAt allowed operandsGood goodLine meaning formulaOf subformulaOf subformulaAt heading-checks offset line-checks lines-checks linesUpTo subformulasOf ruleLines rulesUpTo closing-checks policy-checks policy-answer policyOf componentOf minuteOf numberOf namedOf packedOf valuesOf lengthOf fieldsOf goodAlive goodObservation allWritten goodFields message-answer eventIn meaningOf noted valued number is-point is-none sound fresh stored free admits valuation-of verdicts-of standing sizes-fit opened receive
+unfolding digit below expanded bit since until deep reading lineLength fieldsAt allowed operandsGood goodLine meaning formulaOf subformulaOf subformulaAt heading-checks offset line-checks lines-checks linesUpTo subformulasOf ruleLines rulesUpTo closing-checks policy-checks policy-answer policyOf componentOf minuteOf numberOf namedOf packedOf valuesOf lengthOf fieldsOf goodAlive goodObservation allWritten goodFields message-answer eventIn meaningOf noted valued number is-point is-none sound fresh stored free admits valuation-of verdicts-of standing sizes-fit opened receive follow steady rises level word-sound words-agree
 small-shift x y d e =
     let k : open-state K x .state ≡ opened (policyOf K) = opens K x d .state in
     let u : open-state U y .state ≡ opened (policyOf U) = opens U y e .state in

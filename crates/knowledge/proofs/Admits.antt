@@ -3,24 +3,22 @@
 use Prim.Native.Nat.{ℕ, suc, _+_, _-_, _*_, _≤_, _<_}
 use native.Mathlib.Omega.{arith}
 use native.Mathlib.Decide.{ℕ-discrete}
-use mathlib.Core.Path.{_≡_, refl, sym, ap, _∙_}
-use mathlib.Core.Bool.{Bool, true, false, not, _&&_, _||_, Bool·beq}
-use mathlib.Core.Logic.{_⊎_, inl, inr}
+use mathlib.Core.Path.{_≡_, refl, sym, ap, subst, _∙_}
+use mathlib.Core.Bool.{Bool, true, false, _&&_}
+use mathlib.Core.Logic.{inl, inr}
 use lib.ListN.{getD}
-use Rattle.bits.specs.Bits.{bit}
-use Rattle.mtl.specs.Algebra.{two, all}
 use Rattle.mtl.specs.Folds.{pair}
 use Rattle.decide.specs.Decide.{Decides}
 use Rattle.decide.specs.Laws.{agree, same, both}
 use Rattle.policy.specs.declared.Sizes.{Sizes}
 use Rattle.message.specs.declared.Event.the-variants.{Observation, Alive}
-use Rattle.message.specs.Fixes.{Message, Fixes-number, Fixes-fact, Fits}
-use Rattle.knowledge.specs.Knowledge.{Knowledge, none, number, noted, valued, Sound, sound, Sized, stored, free-number, free, admits}
+use Rattle.message.specs.Fixes.{Message, Fixes-number, Fits}
+use Rattle.knowledge.specs.Knowledge.{Steady, steady, free-place, words-agree, Knowledge, number, Sound, sound, Sized, stored, free, admits}
 use Rattle.knowledge.specs.Laws.{Free, free-law, sound-law}
-use Rattle.knowledge.specs.Store.{Fact, number-hit, number-either, fact-cases, fixed-fact}
-use Rattle.knowledge.specs.Run.{sent, steady, Steady, put, may, words-agree}
-use Rattle.knowledge.specs.Runs.{steady-decides}
-use Rattle.knowledge.proofs.Putting.{at-place, other, steady-less}
+use Rattle.knowledge.specs.Store.{Number-cases, number-hit, number-either, stored-sound}
+use Rattle.knowledge.specs.Run.{sent, put, may, may-observe}
+use Rattle.knowledge.specs.Runs.{steady-decides, steady-less}
+use Rattle.knowledge.proofs.Putting.{at-place, other}
 use Rattle.knowledge.proofs.Pair.{together, to-one, to-next}
 
 module _ (z : Sizes) (k : Knowledge) (m : Message) (long : Sized z k) (fits : Fits z m) (clean : Sound z k) where
@@ -31,7 +29,7 @@ module _ (z : Sizes) (k : Knowledge) (m : Message) (long : Sized z k) (fits : Fi
   still : (s p : ℕ) → (m .component ≡ s → ⊥) → p ≤ z .minutes → number z after s p ≡ number z k s p
   still s p n h = go (number-either z k m long fits s p h)
     where
-      go : ((v : ℕ) × (m .component ≡ s) × Fixes-number (m .event) p v) ⊎ (number z after s p ≡ number z k s p) → number z after s p ≡ number z k s p
+      go : Number-cases z k m s p → number z after s p ≡ number z k s p
       go (inl y) = absurd (n (y .1))
       go (inr y) = y
 
@@ -39,54 +37,24 @@ module _ (z : Sizes) (k : Knowledge) (m : Message) (long : Sized z k) (fits : Fi
   pub kept : (p : ℕ) → p ≤ z .minutes → ((v : ℕ) → Fixes-number (m .event) p v → ⊥) → number z after (m .component) p ≡ number z k (m .component) p
   kept p h n = go (number-either z k m long fits (m .component) p h)
     where
-      go : ((v : ℕ) × (m .component ≡ m .component) × Fixes-number (m .event) p v) ⊎ (number z after (m .component) p ≡ number z k (m .component) p)
-          → number z after (m .component) p ≡ number z k (m .component) p
+      go : Number-cases z k m (m .component) p → number z after (m .component) p ≡ number z k (m .component) p
       go (inl y) = absurd (n (y .0) (y .2))
       go (inr y) = y
 
-  steady-run : Sound z after → Steady (number z after (m .component)) (suc (z .minutes))
-  steady-run S = record {
-    first = S .first (m .component) (fits .component-in);
-    pairs = λ b h a lt p q. let r = S .apart (m .component) a b (fits .component-in) lt (omega arith) p q in record { up = r .0; slow = r .1 };
-  }
-
   sound-run : Free z k (m .component) (m .event) → Steady (number z after (m .component)) (suc (z .minutes)) → Sound z after
-  sound-run lax S = record {
-    first = λ s l. first s l (ℕ-discrete (m .component) s);
-    apart = λ s a b l lt h p q. apart s a b l lt h p q (ℕ-discrete (m .component) s);
-    values = λ i t h l. values i t h l (fact-cases z k m long fits clean lax i t h);
-    propositions = λ i t h l. propositions i t h l (fact-cases z k m long fits clean lax i t h);
-  }
+  sound-run lax S = stored-sound z k m long fits clean lax (λ s l. go s l (ℕ-discrete (m .component) s))
     where
-      first : (s : ℕ) → s < z .components → Dec (m .component ≡ s) → number z after s 0 ≡ 0
-      first s l (yes e) = ap (λ (x : ℕ). number z after x 0) (sym e) ∙ S .first
-      first s l (no n) = still s 0 n (omega arith) ∙ clean .first s l
-
-      apart : (s a b : ℕ) → s < z .components → a < b → b ≤ z .minutes → number z after s a < none → number z after s b < none
-          → Dec (m .component ≡ s) → (number z after s a ≤ number z after s b) × (number z after s b ≤ number z after s a + (b - a))
-      apart s a b l lt h p q (yes e) =
-          let r = S .pairs b (omega arith) a lt (rw (← e) at p) (rw (← e) at q) in
-          rw (← e) (r .up, r .slow)
-      apart s a b l lt h p q (no n) =
-          let x = still s a n (omega arith) in
-          let y = still s b n h in
-          rw (x, y) (clean .apart s a b l lt h (rw x at p) (rw y at q))
-
-      values : (i t : ℕ) → i < 32 → t < z .minutes → ((b : Bool) × Fixes-fact (m .event) i t b × Fact after i t b) ⊎ ((noted after i t ≡ noted k i t) × (valued after i t ≡ valued k i t))
-          → valued after i t ≡ true → noted after i t ≡ true
-      values i t h l (inl y) e = y .2 .is
-      values i t h l (inr y) e = y .0 ∙ clean .values i t h l (sym (y .1) ∙ e)
-
-      propositions : (i t : ℕ) → i < 32 → t < z .minutes → ((b : Bool) × Fixes-fact (m .event) i t b × Fact after i t b) ⊎ ((noted after i t ≡ noted k i t) × (valued after i t ≡ valued k i t))
-          → noted after i t ≡ true → i < z .propositions
-      propositions i t h l (inl y) e = fixed-fact z (m .event) (fits .event-in) i t (y .0) (y .1) .0
-      propositions i t h l (inr y) e = clean .propositions i t h l (sym (y .0) ∙ e)
+      go : (s : ℕ) → s < z .components → Dec (m .component ≡ s) → Steady (number z after s) (suc (z .minutes))
+      go s l (yes e) = subst (λ (x : ℕ). Steady (number z after x) (suc (z .minutes))) e S
+      go s l (no n) =
+          let R = clean .runs s l in
+          steady-less (number z after s) (number z k s) (suc (z .minutes)) (still s 0 n (omega arith) ∙ R .first) (λ i h k. still s i n (omega arith)) R
 
   -- with nothing overwritten, soundness is that of the component's run, which is g
   pub sound-as : Free z k (m .component) (m .event) → (g : ℕ → ℕ) → ((i : ℕ) → i ≤ z .minutes → number z after (m .component) i ≡ g i)
       → Decides (sound z after) (Steady g (suc (z .minutes)))
   sound-as lax g e = record {
-    sound = λ s. let S = steady-run (sound-law z after .0 s) in steady-less g (number z after (m .component)) (suc (z .minutes)) (sym (e 0 (omega arith)) ∙ S .first) (λ i h k. sym (e i (omega arith))) S;
+    sound = λ s. let S = sound-law z after .0 s .runs (m .component) (fits .component-in) in steady-less g (number z after (m .component)) (suc (z .minutes)) (sym (e 0 (omega arith)) ∙ S .first) (λ i h k. sym (e i (omega arith))) S;
     whole = λ S. sound-law z after .1 (sound-run lax (steady-less (number z after (m .component)) g (suc (z .minutes)) (e 0 (omega arith) ∙ S .first) (λ i h k. e i (omega arith)) S));
   }
 
@@ -124,10 +92,10 @@ module _ (z : Sizes) (k : Knowledge) (long : Sized z k) (clean : Sound z k) (c :
   pub admits-observation : (t n named values : ℕ) → Fits z (sent c (Observation t n named values))
       → admits z k (sent c (Observation t n named values))
       ≡ (words-agree (getD (k .facts) (2 * t) 0) (getD (k .facts) (2 * t + 1) 0) named values
-      && (may run (suc (z .minutes)) (suc t) n && may run (suc (z .minutes)) t (n - 1)))
-  unfolding admits free may words-agree noted valued
+      && may-observe run (suc (z .minutes)) t n)
+  unfolding admits free may
   admits-observation t n named values fits =
-      regroup (free-number z k c (suc t) n) (free-number z k c t (n - 1)) (all two 0 32 (λ i. not (bit named i && noted k i t) || Bool·beq (valued k i t) (bit values i)))
+      regroup (free-place run (suc t) n) (free-place run t (n - 1)) (words-agree (getD (k .facts) (2 * t) 0) (getD (k .facts) (2 * t + 1) 0) named values)
       (sound z (stored z k m)) (steady (put run (suc t) n) last) (steady (put run t (n - 1)) last)
       (λ f g w.
       let lax = free-law z k m .0 (pair f (pair g w)) in
@@ -136,7 +104,7 @@ module _ (z : Sizes) (k : Knowledge) (long : Sized z k) (clean : Sound z k) (c :
       (same
       (λ (S : Steady (put run (suc t) n) last × Steady (put run t (n - 1)) last). together run last t (n - 1) n one-apart (S .1) (S .0))
       (λ S. (
-        to-next run last t (n - 1) n one-apart (clean .first c (fits .component-in)) (lax .numbers t (n - 1) (inr (refl, refl))) S,
+        to-next run last t (n - 1) n one-apart (clean .runs c (fits .component-in) .first) (lax .numbers t (n - 1) (inr (refl, refl))) S,
         to-one run last t (n - 1) n one-apart (lax .numbers (suc t) n (inl (refl, refl))) S,
       ))
       (both (steady-decides (put run (suc t) n) last) (steady-decides (put run t (n - 1)) last))))

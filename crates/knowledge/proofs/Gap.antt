@@ -3,16 +3,15 @@
 use mathlib.Core.Path.{_≡_, sym, subst}
 use mathlib.Core.Logic.{_⊎_, ⊎-elim}
 use Prim.Native.Nat.{ℕ, suc, _+_, _-_, _≤_, _<_}
-use native.Mathlib.Nat.{eq-or-lt-of-le}
 use native.Mathlib.Decide.{ℕ-discrete}
 use native.Mathlib.Omega.{arith}
 use borrow.Author.Tests.{eq-eqb, ne-eqb}
 use Rattle.rows.specs.Laws.{lt-or-le}
 use Rattle.decide.specs.Laws.{is-false}
 use Rattle.kleene.specs.Truth.{unknown, true3, false3}
-use Rattle.knowledge.specs.Knowledge.{none}
-use Rattle.knowledge.specs.Run.{Steady, Next, Rises, Flat, gap, told}
-use Rattle.knowledge.specs.Runs.{rises-decides, level-decides}
+use Rattle.knowledge.specs.Knowledge.{none, Steady, Rises, Level}
+use Rattle.knowledge.specs.Run.{Next, gap, told}
+use Rattle.knowledge.specs.Runs.{rises-decides, level-decides, follow-up}
 use Rattle.knowledge.proofs.Walk.{not-between}
 
 module _ (f : ℕ → ℕ) (m t : ℕ) where
@@ -20,18 +19,13 @@ module _ (f : ℕ → ℕ) (m t : ℕ) where
   unfolding told
   told-rises b = rw (rises-decides f t .whole b)
 
-  told-flat : (Rises f t → ⊥) → Flat f m t → told f m t ≡ false3
+  told-flat : (Rises f t → ⊥) → Level f m t → told f m t ≡ false3
   unfolding told
   told-flat b q = rw (is-false (rises-decides f t) b, level-decides f m t .whole q)
 
-  told-none : (Rises f t → ⊥) → (Flat f m t → ⊥) → told f m t ≡ unknown
+  told-none : (Rises f t → ⊥) → (Level f m t → ⊥) → told f m t ≡ unknown
   unfolding told
   told-none b q = rw (is-false (rises-decides f t) b, is-false (level-decides f m t) q)
-
--- known numbers never go down
-up : (f : ℕ → ℕ) (n a b : ℕ) → Steady f n → f a < none → f b < none → a ≤ b → b < n → f a ≤ f b
-up f n a b S k l h w =
-    ⊎-elim (λ (e : a ≡ b). subst (λ (j : ℕ). f a ≤ f j) e (omega arith)) (λ (g : a < b). S .pairs b w a g k l .up) (eq-or-lt-of-le h)
 
 module _ (f : ℕ → ℕ) (m p q t : ℕ) (S : Steady f (suc m)) (k : f p < none) (N : Next f (suc m) (p + 1) q) (from : p ≤ t) where
   -- a known place after t is at q or later
@@ -43,7 +37,7 @@ module _ (f : ℕ → ℕ) (m p q t : ℕ) (S : Steady f (suc m)) (k : f p < non
   after-last w e =
       told-none f m t
       (λ (B : Rises f t). let z = later (suc t) (B .after) (omega arith) in omega arith)
-      (λ (Q : Flat f m t). let l = Q .late-in in let z = later (Q .late) (Q .late-known) (Q .late-after) in omega arith)
+      (λ (Q : Level f m t). let l = Q .late-in in let z = later (Q .late) (Q .late-known) (Q .late-after) in omega arith)
 
   module _ (there : q < suc m) (to : t < q) where
     w : f q < none
@@ -82,11 +76,11 @@ module _ (f : ℕ → ℕ) (m p q t : ℕ) (S : Steady f (suc m)) (k : f p < non
     wide h d =
         told-none f m t
         (λ (B : Rises f t). let g = own-gap B in d (omega arith))
-        (λ (Q : Flat f m t).
+        (λ (Q : Level f m t).
         let l = Q .late-in in
-        let a = up f (suc m) (Q .early) p S (Q .early-known) k (earlier (Q .early) (Q .early-known) (Q .early-before)) (omega arith) in
-        let b = up f (suc m) q (Q .late) S w (Q .late-known) (later (Q .late) (Q .late-known) (Q .late-after)) (omega arith) in
-        let c = up f (suc m) p q S k w (omega arith) there in
+        let a = follow-up f (suc m) S (Q .early) p (Q .early-known) k (earlier (Q .early) (Q .early-known) (Q .early-before)) (omega arith) .up in
+        let b = follow-up f (suc m) S q (Q .late) w (Q .late-known) (later (Q .late) (Q .late-known) (Q .late-after)) (omega arith) .up in
+        let c = follow-up f (suc m) S p q k w (omega arith) there .up in
         let s = Q .equal in
         h (omega arith))
 

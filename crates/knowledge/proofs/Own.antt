@@ -10,8 +10,8 @@ use lib.ListN.{getD, length, take, drop}
 use Rattle.policy.specs.declared.Sizes.{Sizes}
 use Rattle.message.specs.declared.Event.the-variants.{Observation, Alive}
 use Rattle.message.specs.Fixes.{Fits}
-use Rattle.knowledge.specs.Knowledge.{number, Sound, Sized, admits}
-use Rattle.knowledge.specs.Run.{cell, held, sent, Steady, may, words-agree}
+use Rattle.knowledge.specs.Knowledge.{number, Sound, Sized, admits, Steady, words-agree}
+use Rattle.knowledge.specs.Run.{cell, held, sent, may, may-observe}
 use Rattle.knowledge.specs.Runs.{runs-of}
 use Rattle.knowledge.proofs.Parts.{part-long, part-is-steady, part-may}
 use Rattle.knowledge.proofs.Admits.{admits-observation, admits-alive}
@@ -37,7 +37,7 @@ module _ (z : Sizes) (numbers facts : List ℕ) (long : Sized z (held numbers fa
   own-may = part-may numbers (z .minutes) (z .components) c at (long .numbers) inside start
 
   pub own-observation : (t n named values : ℕ) → Fits z (sent c (Observation t n named values))
-      → (words-agree (getD facts (2 * t) 0) (getD facts (2 * t + 1) 0) named values && (may (cell own) (length own) (suc t) n && may (cell own) (length own) t (n - 1)))
+      → (words-agree (getD facts (2 * t) 0) (getD facts (2 * t + 1) 0) named values && may-observe (cell own) (length own) t n)
       ≡ admits z (held numbers facts) (sent c (Observation t n named values))
   own-observation t n named values fits =
       let l = fits .event-in .0 in

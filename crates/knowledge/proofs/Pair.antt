@@ -4,9 +4,10 @@ use mathlib.Core.Path.{_≡_, sym, ap, subst, _∙_}
 use Prim.Native.Nat.{ℕ, suc, _-_, _<_}
 use native.Mathlib.Decide.{ℕ-discrete}
 use native.Mathlib.Omega.{arith}
-use Rattle.knowledge.specs.Knowledge.{none}
-use Rattle.knowledge.specs.Run.{Follow, Steady, put}
-use Rattle.knowledge.proofs.Putting.{at-place, other, follow-up, steady-less}
+use Rattle.knowledge.specs.Knowledge.{none, Follow, Steady}
+use Rattle.knowledge.specs.Run.{put}
+use Rattle.knowledge.specs.Runs.{follow-up, steady-less}
+use Rattle.knowledge.proofs.Putting.{at-place, other}
 
 module _ (f : ℕ → ℕ) (n t v w : ℕ) (apart : w ≡ suc v) where
   abbrev one : ℕ → ℕ

@@ -1,22 +1,21 @@
 -- Where the components' runs lie, and that a run read from its own part tells the same.
 -- Assumes nothing.
 use mathlib.Core.Path.{_≡_, refl, sym, ap, ap₂, _∙_}
-use mathlib.Core.Bool.{Bool, true, false, not, cond, _&&_, _||_}
+use mathlib.Core.Bool.{Bool, true, false, cond, _&&_}
 use mathlib.Core.List.{List, [], _∷_}
 use Prim.Native.Nat.{ℕ, zero, suc, _+_, _-_, _*_, _≤_, _<_}
 use native.Mathlib.Nat.{suc-mul, mul-le-mul-right}
 use native.Mathlib.Numerals.{add-one}
 use native.Mathlib.Omega.{arith}
-use lib.Dec.{ltb, eqb}
+use lib.Dec.{eqb}
 use lib.ListN.{length, getD, take, drop, length-take, length-drop}
 use lib.Seq.{getD-take, getD-drop}
 use Rattle.mtl.specs.Algebra.{two, all}
 use Rattle.decide.specs.Laws.{agree, same}
 use Rattle.policy.specs.declared.Sizes.{Sizes}
-use Rattle.knowledge.specs.Knowledge.{none, number, noted, valued, sound}
-use Rattle.knowledge.specs.Run.{cell, run-of, held, follow, steady, Steady, Rises, Flat, told, put, may, word-sound}
-use Rattle.knowledge.specs.Runs.{steady-decides, rises-decides, level-decides}
-use Rattle.knowledge.proofs.Putting.{steady-less}
+use Rattle.knowledge.specs.Knowledge.{none, run-of, Steady, steady, free-place, word-sound, number, sound}
+use Rattle.knowledge.specs.Run.{cell, held, told, put, may}
+use Rattle.knowledge.specs.Runs.{steady-decides, rises-decides, level-decides, Within, steady-less, rises-more, level-more}
 
 pub one-run : (c k : ℕ) → (c + 1) * k ≡ c * k + k
 one-run c k = rw add-one (suc-mul c k)
@@ -42,42 +41,19 @@ steady-same f g n l e =
 may-same : (f g : ℕ → ℕ) (n p v : ℕ) → p < n → ((i : ℕ) → i < n → f i ≡ g i) → may f n p v ≡ may g n p v
 unfolding may put
 may-same f g n p v l e =
-    ap₂ (λ (x : ℕ) (b : Bool). (ltb v none && (not (ltb x none) || eqb x v)) && b) (e p l) (steady-same (put f p v) (put g p v) n (omega arith) alike)
+    ap₂ (λ (x : ℕ) (b : Bool). free-place (λ i. x) p v && b) (e p l) (steady-same (put f p v) (put g p v) n (omega arith) alike)
   where
     alike : (i : ℕ) → i < n → put f p v i ≡ put g p v i
     alike i h = ap (cond (eqb i p) v) (e i h)
 
-rises-less : (f g : ℕ → ℕ) (m t : ℕ) → t < m → ((i : ℕ) → i < suc m → f i ≡ g i) → Rises f t → Rises g t
-rises-less f g m t l e R =
-    let x = e t (omega arith) in
-    let y = e (suc t) (omega arith) in
-    record { before = rw x at (R .before); after = rw y at (R .after); apart = sym y ∙ R .apart ∙ ap suc x }
-
-flat-less : (f g : ℕ → ℕ) (m t : ℕ) → ((i : ℕ) → i < suc m → f i ≡ g i) → Flat f m t → Flat g m t
-flat-less f g m t e F =
-    let a = F .early-before in
-    let b = F .late-after in
-    let c = F .late-in in
-    let x = e (F .early) (omega arith) in
-    let y = e (F .late) (omega arith) in
-    record {
-      early = F .early;
-      late = F .late;
-      early-before = a;
-      late-after = b;
-      late-in = c;
-      early-known = rw x at (F .early-known);
-      late-known = rw y at (F .late-known);
-      equal = sym x ∙ F .equal ∙ y;
-    }
-
 told-same : (f g : ℕ → ℕ) (m t : ℕ) → t < m → ((i : ℕ) → i < suc m → f i ≡ g i) → told f m t ≡ told g m t
 unfolding told
 told-same f g m t l e =
-    let back : (i : ℕ) → i < suc m → g i ≡ f i = λ i h. sym (e i h) in
+    let there : Within f g (suc m) = λ i h k. e i h in
+    let back : Within g f (suc m) = λ i h k. sym (e i h) in
     rw (
-      agree (same (rises-less f g m t l e) (rises-less g f m t l back) (rises-decides f t)) (rises-decides g t),
-      agree (same (flat-less f g m t e) (flat-less g f m t back) (level-decides f m t)) (level-decides g m t),
+      agree (same (rises-more f g m t l there) (rises-more g f m t l back) (rises-decides f t)) (rises-decides g t),
+      agree (same (level-more f g m t there) (level-more g f m t back) (level-decides f m t)) (level-decides g m t),
     )
     refl
 
@@ -120,7 +96,7 @@ module _ (z : Sizes) (numbers facts : List ℕ) where
   words-test = all two 0 (z .minutes) (λ t. word-sound (z .propositions) (getD facts (2 * t) 0) (getD facts (2 * t + 1) 0))
 
   sound-parts : sound z (held numbers facts) ≡ (runs-test && words-test)
-  unfolding sound steady follow number noted valued word-sound
+  unfolding sound number
   sound-parts = refl
 
   pub sound-fails : runs-test ≡ false → sound z (held numbers facts) ≡ false

@@ -14,18 +14,14 @@ use Rattle.mtl.specs.Algebra as algebra
 use Rattle.rows.specs.Over.{Over}
 use Rattle.rows.specs.Laws.{two}
 use Rattle.policy.specs.declared.Sizes.{Sizes}
-use Rattle.knowledge.specs.Knowledge.{Knowledge, number, is-point, is-none, point-known}
-use Rattle.knowledge.specs.Run.{run-of, rises, level, told}
+use Rattle.knowledge.specs.Knowledge.{Knowledge, number, is-point, is-none, point-known, run-of, rises, level}
+use Rattle.knowledge.specs.Run.{joined, told}
 
--- the row with what run f tells
-abbrev pub joined : (ℕ → ℕ) → ℕ → List ℕ → ℕ → ℕ
-joined f m row t = codeOf (or3 (valueOf (getD row t 0)) (told f m t))
-
-pub stretch : (f : ℕ → ℕ) (m mid hi : ℕ) (old row new : List ℕ) (code : ℕ) → Over (joined f m old) 0 mid old row
-    → Over (λ i. codeOf (or3 (valueOf (getD row i 0)) (valueOf code))) mid hi row new → mid ≤ hi
-    → ((t : ℕ) → mid ≤ t → t < hi → valueOf code ≡ told f m t) → Over (joined f m old) 0 hi old new
+pub stretch : (f : ℕ → ℕ) (m mid hi : ℕ) (old row new : List ℕ) (code : ℕ) → Over (joined old (told f m)) 0 mid old row
+    → Over (joined row (λ _. valueOf code)) mid hi row new → mid ≤ hi
+    → ((t : ℕ) → mid ≤ t → t < hi → valueOf code ≡ told f m t) → Over (joined old (told f m)) 0 hi old new
 stretch f m mid hi old row new code o s l e =
-    two (joined f m old) (λ i. codeOf (or3 (valueOf (getD row i 0)) (valueOf code))) 0 mid hi old row new o s (omega arith) l
+    two (joined old (told f m)) (joined row (λ _. valueOf code)) 0 mid hi old row new o s (omega arith) l
     (λ t p q. ap₂ (λ (x : ℕ) (y : Truth). codeOf (or3 (valueOf x) y)) (o .above t p) (e t p q))
 
 -- what the first n components tell of minute t
@@ -65,7 +61,7 @@ unfolding points is-point is-none number rises level
 all-points z k t = refl
 
 -- the row after one more component
-pub one-more-run : (l : List ℕ) (f : ℕ → ℕ) (m n : ℕ) (row new : List ℕ) → Over (joined f m row) 0 m row new
+pub one-more-run : (l : List ℕ) (f : ℕ → ℕ) (m n : ℕ) (row new : List ℕ) → Over (joined row (told f m)) 0 m row new
     → ((t : ℕ) → t < m → getD row t 0 ≡ codeOf (points l m n t)) → ((t : ℕ) → t < m → told f m t ≡ told (run-of l m n) m t)
     → (t : ℕ) → t < m → getD new t 0 ≡ codeOf (points l m (n + 1) t)
 one-more-run l f m n row new o e s t h =

@@ -3,33 +3,14 @@
 use mathlib.Core.Path.{_≡_, refl, sym, ap, subst, _∙_}
 use mathlib.Core.Logic.{_⊎_, ⊎-elim}
 use Prim.Native.Nat.{ℕ, _+_, _-_, _≤_, _<_}
-use native.Mathlib.Nat.{eq-or-lt-of-le}
 use native.Mathlib.Decide.{ℕ-discrete}
 use native.Mathlib.Omega.{arith}
 use borrow.Author.Tests.{eq-eqb, ne-eqb}
 use Rattle.rows.specs.Laws.{lt-or-le}
-use Rattle.knowledge.specs.Knowledge.{none}
-use Rattle.knowledge.specs.Run.{Follow, Steady, Next, Previous, put}
+use Rattle.knowledge.specs.Knowledge.{none, Follow, Steady}
+use Rattle.knowledge.specs.Run.{Next, Previous, put}
+use Rattle.knowledge.specs.Runs.{follow-up, steady-less}
 use Rattle.knowledge.proofs.Walk.{follow-more}
-
--- any two known places, also one twice
-pub follow-up : (f : ℕ → ℕ) (n : ℕ) → Steady f n → (a b : ℕ) → f a < none → f b < none → a ≤ b → b < n → Follow (f a) (f b) (b - a)
-follow-up f n S a b k l h w =
-    ⊎-elim
-    (λ (e : a ≡ b). subst (λ (j : ℕ). Follow (f a) (f j) (j - a)) e (record { up = omega arith; slow = omega arith }))
-    (λ (g : a < b). S .pairs b w a g k l)
-    (eq-or-lt-of-le h)
-
--- a run that knows less than a steady one is steady
-pub steady-less : (g h : ℕ → ℕ) (n : ℕ) → g 0 ≡ 0 → ((i : ℕ) → i < n → g i < none → g i ≡ h i) → Steady h n → Steady g n
-steady-less g h n z e S =
-    record {
-      first = z;
-      pairs = λ b l a lt ka kb.
-          let x = e a (omega arith) ka in
-          let y = e b l kb in
-          rw (x, y) (S .pairs b l a lt (rw x at ka) (rw y at kb));
-    }
 
 pub at-place : (f : ℕ → ℕ) (p v : ℕ) → put f p v p ≡ v
 unfolding put

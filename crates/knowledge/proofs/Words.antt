@@ -6,11 +6,11 @@ use mathlib.Core.Bool.{Bool, true, false, not, _&&_, _||_, xor, Bool·beq, true�
 use mathlib.Core.Logic.{_↔_}
 use lib.Bits.{bitAnd, bitOr, bitXor, or-lt, and-lt, xor-lt}
 use lib.Dec.{ltb, eqb}
-use Rattle.decide.specs.Decide.{Decides}
-use Rattle.decide.specs.Laws.{is-false, agree, same, itself, less, equal, both, none, implies, each, each-same}
+use Rattle.decide.specs.Laws.{is-false, agree, same, itself, less, equal, none, each, each-same}
 use Rattle.bits.specs.Bits.{bit, bit-or, bits-same}
 use Rattle.bits.specs.Masks.{bit-and, bit-xor, no-bits, low-bits}
-use Rattle.knowledge.specs.Run.{word-sound, words-agree}
+use Rattle.knowledge.specs.Knowledge.{word-sound, words-agree}
+use Rattle.knowledge.specs.Laws.{word-decides}
 
 absorbed : (a b : Bool) → (b ≡ true → a ≡ true) → (a || b) ≡ a
 absorbed true b h = refl
@@ -24,14 +24,6 @@ inside known values h k = (
   λ e i l f. sym (ap (λ (x : ℕ). bit x i) e) ∙ bit-or i known values ∙ ap (λ (x : Bool). bit known i || x) f ∙ or-true (bit known i),
   λ f. bits-same 32 (bitOr known values) known (or-lt 32 known values h k) h (λ i l. bit-or i known values ∙ absorbed (bit known i) (bit values i) (f i l)),
 )
-
-abbrev Word : ℕ → ℕ → ℕ → Type 0
-Word p known values = (i : ℕ) → i < 32 → (bit values i ≡ true → bit known i ≡ true) × (bit known i ≡ true → i < p)
-
-word-decides : (p known values : ℕ) → Decides (word-sound p known values) (Word p known values)
-unfolding word-sound
-word-decides p known values =
-    each 32 _ _ (λ i. both (implies (itself (bit values i)) (itself (bit known i))) (implies (itself (bit known i)) (less i p)))
 
 module _ (p known values : ℕ) (h : known < 2 ^ 32) (k : values < 2 ^ 32) where
   pub word-fails : (bitOr known values ≡ known → ⊥) → word-sound p known values ≡ false
@@ -76,17 +68,13 @@ module _ (known old named values : ℕ) (a : known < 2 ^ 32) (b : old < 2 ^ 32) 
   bit-mask : (i : ℕ) → bit mask i ≡ ((bit known i && bit named i) && xor (bit old i) (bit values i))
   bit-mask i = rw (bit-and i (bitAnd known named) (bitXor old values), bit-and i known named, bit-xor i old values) refl
 
-  false-of : (x : Bool) → (x ≡ true → ⊥) → x ≡ false
-  false-of true f = absurd (f refl)
-  false-of false f = refl
-
   pub words-mask : eqb mask 0 ≡ words-agree known old named values
   unfolding words-agree
   words-mask =
       agree
       (same
       (λ (e : mask ≡ 0) i (l : i < 32) f. true≢false (sym f ∙ no-bits 32 mask small .0 e i l))
-      (λ (f : (i : ℕ) → i < 32 → bit mask i ≡ true → ⊥). no-bits 32 mask small .1 (λ i l. false-of (bit mask i) (f i l)))
+      (λ (f : (i : ℕ) → i < 32 → bit mask i ≡ true → ⊥). no-bits 32 mask small .1 (λ i l. is-false (itself (bit mask i)) (f i l)))
       (equal mask 0))
       (each 32 (λ i. not (bit mask i)) (λ i. bit mask i ≡ true → ⊥) (λ i. none (itself (bit mask i))))
       ∙ each-same 32 (λ i. not (bit mask i)) _ (λ i l. ap not (bit-mask i) ∙ sym (differs (bit known i) (bit named i) (bit old i) (bit values i)))

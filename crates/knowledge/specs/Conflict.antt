@@ -11,8 +11,9 @@ use Rattle.mtl.specs.Folds.{both, pair}
 use Rattle.policy.specs.declared.Sizes.{Sizes}
 use Rattle.message.specs.Fixes.{Message, Fixes-number, Fixes-fact, Fits}
 use Rattle.knowledge.specs.Laws.{Limits, Free, free-law, sound-law}
-use Rattle.knowledge.specs.Store.{Fact, number-either, number-hit, fact-cases, fact-hit, facts-after, numbers-after, fixed-place, fixed-fact}
-use Rattle.knowledge.specs.Witness.{tally-least, tally-far, witness, witnessed}
+use Rattle.knowledge.specs.Store.{Fact, Number-cases, number-either, number-hit, fact-hit, facts-after, numbers-after, fixed-place, fixed-fact, stored-sound}
+use Rattle.knowledge.specs.Counts.{tally-count}
+use Rattle.knowledge.specs.Witness.{agreed}
 
 module _ (c : Sizes) (proper : Limits c) (k : Knowledge) (m : Message) (long : Sized c k) (fits : Fits c m) (clean : Sound c k) where
   -- a trace of the stored knowledge is one of the knowledge that admits the message
@@ -47,7 +48,7 @@ module _ (c : Sizes) (proper : Limits c) (k : Knowledge) (m : Message) (long : S
   module _ (w : Trace c) (g : Agrees c w k) (a : Admits c w m) where
     free-of : Free c k (m .component) (m .event)
     free-of = record {
-      small = λ p n f. omega (arith, a .numbers p n f, tally-least (w .observes (m .component)) p, fixed-place c (m .event) (fits .event-in) p n f, proper .minutes-most);
+      small = λ p n f. omega (arith, a .numbers p n f, tally-count (w .observes (m .component)) .near p 0, fixed-place c (m .event) (fits .event-in) p n f, proper .minutes-most);
       numbers = λ p n f l. sym (g .numbers (m .component) p (fits .component-in) (fixed-place c (m .event) (fits .event-in) p n f) l) ∙ a .numbers p n f;
       facts = λ i t b l f e. let r = fixed-fact c (m .event) (fits .event-in) i t b f in sym (g .facts i t (r .0) (r .1) e) ∙ a .facts i t b f;
     }
@@ -72,30 +73,16 @@ module _ (c : Sizes) (proper : Limits c) (k : Knowledge) (m : Message) (long : S
             go (inr z) = a .facts i t _ z
 
     sound-of : Sound c (stored c k m)
-    sound-of = record {
-      first = λ s l. first s l (number-either c k m long fits s 0 (omega arith));
-      apart = λ s p q l h b x y. omega (arith, to-stored .numbers s p l (omega arith) x, to-stored .numbers s q l b y, tally-far (w .observes s) p q (omega arith));
-      values = λ i t l h e. values i t h l e (fact-cases c k m long fits clean free-of i t l);
-      propositions = λ i t l h e. propositions i t h l e (fact-cases c k m long fits clean free-of i t l);
-    }
+    sound-of = stored-sound c k m long fits clean free-of (λ s l. record {
+      first = first s l (number-either c k m long fits s 0 (omega arith));
+      pairs = λ q b p h x y.
+          omega (arith, to-stored .numbers s p l (omega arith) x, to-stored .numbers s q l (omega arith) y, tally-count (w .observes s) .near p q, tally-count (w .observes s) .near q p);
+    })
       where
-        first : (s : ℕ) → s < c .components → ((n : ℕ) × (m .component ≡ s) × Fixes-number (m .event) 0 n) ⊎ (number c (stored c k m) s 0 ≡ number c k s 0)
-            → number c (stored c k m) s 0 ≡ 0
-        first s l (inr e) = e ∙ clean .first s l
+        first : (s : ℕ) → s < c .components → Number-cases c k m s 0 → number c (stored c k m) s 0 ≡ 0
+        first s l (inr e) = e ∙ clean .runs s l .first
         first s l (inl z) =
             ap (λ (x : ℕ). number c (stored c k m) x 0) (sym (z .1)) ∙ number-hit c k m long fits 0 (z .0) (z .2) ∙ sym (a .numbers 0 (z .0) (z .2))
-
-        values : (i t : ℕ) → t < c .minutes → i < 32 → valued (stored c k m) i t ≡ true
-            → ((b : Bool) × Fixes-fact (m .event) i t b × Fact (stored c k m) i t b) ⊎ ((noted (stored c k m) i t ≡ noted k i t) × (valued (stored c k m) i t ≡ valued k i t))
-            → noted (stored c k m) i t ≡ true
-        values i t h l e (inl z) = z .2 .is
-        values i t h l e (inr z) = z .0 ∙ clean .values i t l h (sym (z .1) ∙ e)
-
-        propositions : (i t : ℕ) → t < c .minutes → i < 32 → noted (stored c k m) i t ≡ true
-            → ((b : Bool) × Fixes-fact (m .event) i t b × Fact (stored c k m) i t b) ⊎ ((noted (stored c k m) i t ≡ noted k i t) × (valued (stored c k m) i t ≡ valued k i t))
-            → i < c .propositions
-        propositions i t h l e (inl z) = fixed-fact c (m .event) (fits .event-in) i t (z .0) (z .1) .0
-        propositions i t h l e (inr z) = clean .propositions i t l h (sym (z .0) ∙ e)
 
   -- a message admits with the knowledge exactly when a trace agrees with both
   pub admits-law : (admits c k m ≡ true) ↔ ((w : Trace c) × Agrees c w k × Admits c w m)
@@ -105,8 +92,9 @@ module _ (c : Sizes) (proper : Limits c) (k : Knowledge) (m : Message) (long : S
       there : admits c k m ≡ true → (w : Trace c) × Agrees c w k × Admits c w m
       there e =
           let h = both (free c k m) (sound c (stored c k m)) e in
-          let r = of-stored (free-law c k m .0 (h .0)) (witness c (stored c k m)) (witnessed c (stored c k m) (sound-law c (stored c k m) .0 (h .1))) in
-          (witness c (stored c k m), r .0, r .1)
+          let w = agreed c (stored c k m) (sound-law c (stored c k m) .0 (h .1)) in
+          let r = of-stored (free-law c k m .0 (h .0)) (w .0) (w .1) in
+          (w .0, r .0, r .1)
 
       back : (w : Trace c) × Agrees c w k × Admits c w m → admits c k m ≡ true
       back r = pair (free-law c k m .1 (free-of (r .0) (r .1) (r .2))) (sound-law c (stored c k m) .1 (sound-of (r .0) (r .1) (r .2)))

@@ -1,7 +1,7 @@
 -- 01, "The record and what it tells".
-use Prim.Native.Nat.{ℕ, zero, suc, _+_, _-_, _*_, _%_, _≤_, _<_}
+use Prim.Native.Nat.{ℕ, suc, _+_, _-_, _*_, _%_, _≤_, _<_}
 use mathlib.Core.Path.{_≡_}
-use mathlib.Core.Bool.{Bool, true, false, not, cond, _&&_, _||_, Bool·beq}
+use mathlib.Core.Bool.{Bool, true, not, cond, _&&_, _||_, Bool·beq}
 use mathlib.Core.List.{List}
 use lib.ListN.{getD, length, set, replicate}
 use lib.Dec.{ltb, leb, eqb}
@@ -23,32 +23,105 @@ pub record Knowledge : Type 0 where
   -- "facts, two per minute, known marks and then their values"
   pub facts : List ℕ
 
--- the code of a sequence number that is not known
+-- "minutes M (1 to 1,024)"
+abbrev pub most-minutes : ℕ
+most-minutes = 1024
+
+-- the code of a sequence number that is not known; a known one is below it
 abbrev pub none : ℕ
 none = 65535
 
+-- ---- one component's run: its sequence numbers, as a function from the place. Place 0 stands for "before minute 0", place t + 1 for minute t
+
+-- component c's run among runs of m minutes, one after another
+abbrev pub run-of : List ℕ → ℕ → ℕ → ℕ → ℕ
+run-of l m c p = getD l (c * suc m + p) none
+
+-- "0 ≤ later − earlier ≤ b − a": the number w stands d places after v
+pub record Follow (v w d : ℕ) : Type 0 where
+  pub up : v ≤ w
+  pub slow : w ≤ v + d
+
+-- "Every first count is 0, any two known counts of one station at places a < b satisfy" that, of the run's first n places
+pub record Steady (f : ℕ → ℕ) (n : ℕ) : Type 0 where
+  pub first : f 0 ≡ 0
+  pub pairs : (b : ℕ) → b < n → (a : ℕ) → a < b → f a < none → f b < none → Follow (f a) (f b) (b - a)
+
+-- "Counts at t − 1 and t are both known and one apart"
+pub record Rises (f : ℕ → ℕ) (t : ℕ) : Type 0 where
+  pub before : f t < none
+  pub after : f (suc t) < none
+  pub apart : f (suc t) ≡ suc (f t)
+
+-- "Equal known counts at some a < t and some b ≥ t", of m minutes; the place before minute 0 is one of the first
+pub record Level (f : ℕ → ℕ) (m t : ℕ) : Type 0 where
+  pub early : ℕ
+  pub late : ℕ
+  pub early-before : early ≤ t
+  pub late-after : t < late
+  pub late-in : late ≤ m
+  pub early-known : f early < none
+  pub late-known : f late < none
+  pub equal : f early ≡ f late
+
+-- ---- the same as tests, which compute
+
+unfoldable pub follow : ℕ → ℕ → ℕ → Bool
+follow v w d = leb v w && leb w (v + d)
+
+unfoldable pub steady : (ℕ → ℕ) → ℕ → Bool
+steady f n =
+    eqb (f 0) 0
+    && all two 0 n (λ b. all two 0 b (λ a. not (ltb (f a) none) || (not (ltb (f b) none) || follow (f a) (f b) (b - a))))
+
+unfoldable pub rises : (ℕ → ℕ) → ℕ → Bool
+rises f t = ltb (f t) none && (ltb (f (suc t)) none && eqb (f (suc t)) (suc (f t)))
+
+unfoldable pub level : (ℕ → ℕ) → ℕ → ℕ → Bool
+level f m t = any two 0 (suc t) (λ a. any two (suc t) (m - t) (λ b. ltb (f a) none && (ltb (f b) none && eqb (f a) (f b))))
+
+-- v may stand at place p: a number that is known is not overwritten by another, and 65535 stands for no number
+abbrev pub free-place : (ℕ → ℕ) → ℕ → ℕ → Bool
+free-place f p v = ltb v none && (not (ltb (f p) none) || eqb (f p) v)
+
+-- ---- one minute's two words of facts
+
+-- "No value bit is 1 where its mark isn't known, and no mark beyond the card is known": p is how many marks there are
+unfoldable pub word-sound : ℕ → ℕ → ℕ → Bool
+word-sound p known values = all two 0 32 (λ i. (not (bit values i) || bit known i) && (not (bit known i) || ltb i p))
+
+-- no named proposition is known with another value
+unfoldable pub words-agree : ℕ → ℕ → ℕ → ℕ → Bool
+words-agree known old named values = all two 0 32 (λ i. not (bit named i && bit known i) || Bool·beq (bit old i) (bit values i))
+
+-- ---- the knowledge
+
+abbrev pub known-word : Knowledge → ℕ → ℕ
+known-word k t = getD (k .facts) (2 * t) 0
+
+abbrev pub value-word : Knowledge → ℕ → ℕ
+value-word k t = getD (k .facts) (2 * t + 1) 0
+
 -- is proposition i known at minute t, and its value bit
 unfoldable pub noted : Knowledge → ℕ → ℕ → Bool
-noted k i t = bit (getD (k .facts) (2 * t) 0) i
+noted k i t = bit (known-word k t) i
 
 unfoldable pub valued : Knowledge → ℕ → ℕ → Bool
-valued k i t = bit (getD (k .facts) (2 * t + 1) 0) i
+valued k i t = bit (value-word k t) i
 
 -- "A mark is its fact, else unknown"
 abbrev pub fact : Knowledge → ℕ → ℕ → Truth
 fact k i t = cond (noted k i t) (cond (valued k i t) true3 false3) unknown
 
 module _ (z : Sizes) where
-  -- component c's sequence number at place p; a known one is below 65535
+  -- component c's sequence number at place p
   unfoldable pub number : Knowledge → ℕ → ℕ → ℕ
-  number k c p = getD (k .numbers) (c * suc (z .minutes) + p) none
+  number k c = run-of (k .numbers) (z .minutes) c
 
   -- "A record is sound if every first count is 0, any two known counts of one station at places a < b satisfy 0 ≤ later − earlier ≤ b − a,
   -- no value bit is 1 where its mark isn't known, and no mark beyond the card is known"
   pub record Sound (k : Knowledge) : Type 0 where
-    pub first : (c : ℕ) → c < z .components → number k c 0 ≡ 0
-    pub apart : (c a b : ℕ) → c < z .components → a < b → b ≤ z .minutes → number k c a < none → number k c b < none
-        → (number k c a ≤ number k c b) × (number k c b ≤ number k c a + (b - a))
+    pub runs : (c : ℕ) → c < z .components → Steady (number k c) (suc (z .minutes))
     pub values : (i t : ℕ) → i < 32 → t < z .minutes → valued k i t ≡ true → noted k i t ≡ true
     pub propositions : (i t : ℕ) → i < 32 → t < z .minutes → noted k i t ≡ true → i < z .propositions
 
@@ -61,42 +134,24 @@ module _ (z : Sizes) where
   pub record Known-point (k : Knowledge) (t : ℕ) : Type 0 where
     pub component : ℕ
     pub is-component : component < z .components
-    pub before : number k component t < none
-    pub after : number k component (suc t) < none
-    pub apart : number k component (suc t) ≡ suc (number k component t)
-
-  -- equal known counts at some a < t and some b ≥ t; the place before minute 0 is one of the first
-  pub record Level (k : Knowledge) (c t : ℕ) : Type 0 where
-    pub early : ℕ
-    pub late : ℕ
-    pub early-before : early ≤ t
-    pub late-after : t < late
-    pub late-in : late ≤ z .minutes
-    pub early-known : number k c early < none
-    pub late-known : number k c late < none
-    pub equal : number k c early ≡ number k c late
+    pub rise : Rises (number k component) t
 
   -- "It is known quiet if every station has equal known counts at some a < t and some b ≥ t"
   abbrev pub Known-none : Knowledge → ℕ → Type 0
-  Known-none k t = (c : ℕ) → c < z .components → Level k c t
+  Known-none k t = (c : ℕ) → c < z .components → Level (number k c) (z .minutes) t
 
   -- ---- the same as tests, which compute
 
-  unfoldable pub is-point : Knowledge → ℕ → Bool
-  is-point k t = any two 0 (z .components)
-      (λ c. ltb (number k c t) none && (ltb (number k c (suc t)) none && eqb (number k c (suc t)) (suc (number k c t))))
-
-  unfoldable pub is-none : Knowledge → ℕ → Bool
-  is-none k t = all two 0 (z .components) (λ c. any two 0 (suc t) (λ a. any two (suc t) (z .minutes - t)
-      (λ b. ltb (number k c a) none && (ltb (number k c b) none && eqb (number k c a) (number k c b)))))
-
   unfoldable pub sound : Knowledge → Bool
   sound k =
-      all two 0 (z .components) (λ c. eqb (number k c 0) 0 && all two 0 (suc (z .minutes)) (λ b. all two 0 b (λ a.
-      not (ltb (number k c a) none) || (not (ltb (number k c b) none)
-      || (leb (number k c a) (number k c b) && leb (number k c b) (number k c a + (b - a)))))))
-      && all two 0 (z .minutes) (λ t. all two 0 32 (λ i.
-      (not (valued k i t) || noted k i t) && (not (noted k i t) || ltb i (z .propositions))))
+      all two 0 (z .components) (λ c. steady (number k c) (suc (z .minutes)))
+      && all two 0 (z .minutes) (λ t. word-sound (z .propositions) (known-word k t) (value-word k t))
+
+  unfoldable pub is-point : Knowledge → ℕ → Bool
+  is-point k t = any two 0 (z .components) (λ c. rises (number k c) t)
+
+  unfoldable pub is-none : Knowledge → ℕ → Bool
+  is-none k t = all two 0 (z .components) (λ c. level (number k c) (z .minutes) t)
 
   -- ---- what it tells
 
@@ -138,16 +193,11 @@ module _ (z : Sizes) where
 
   -- ---- does a message go with the knowledge
 
-  -- a number that is known is not overwritten by another; and 65535 stands for no number
-  abbrev pub free-number : Knowledge → ℕ → ℕ → ℕ → Bool
-  free-number k c p n = ltb n none && (not (ltb (number k c p) none) || eqb (number k c p) n)
-
-  -- nor is a fact
+  -- nothing that is known is overwritten by another number or value
   abbrev pub free-event : Knowledge → ℕ → Event → Bool
   free-event k c (Observation t n named values) =
-      free-number k c (suc t) n && (free-number k c t (n - 1)
-      && all two 0 32 (λ i. not (bit named i && noted k i t) || Bool·beq (valued k i t) (bit values i)))
-  free-event k c (Alive t n) = free-number k c t n
+      free-place (number k c) (suc t) n && (free-place (number k c) t (n - 1) && words-agree (known-word k t) (value-word k t) named values)
+  free-event k c (Alive t n) = free-place (number k c) t n
 
   unfoldable pub free : Knowledge → Message → Bool
   free k m = free-event k (m .component) (m .event)

@@ -1,12 +1,14 @@
 -- The knowledge and the traces that agree with it.
 pub mod Trace
 pub mod Knowledge
-pub mod Numbers
+pub mod Pins
 pub mod Laws
 pub mod Store
+pub mod Counts
 pub mod Witness
 pub mod Conflict
 pub mod Window
 pub mod Worlds
+pub mod Exact
 pub mod Run
 pub mod Runs

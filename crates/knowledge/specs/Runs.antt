@@ -1,11 +1,13 @@
--- Each test on a run decides its claim.
-use Prim.Native.Nat.{ℕ, suc, _+_, _-_}
+-- One run: each test decides its claim, what the claim says of any two known places, and what another run that knows more or less tells.
+use Prim.Native.Nat.{ℕ, suc, _+_, _-_, _≤_, _<_}
 use native.Mathlib.Omega.{arith}
+use native.Mathlib.Decide.{decLt}
+use mathlib.Core.Path.{_≡_, sym, ap, _∙_}
 use Rattle.decide.specs.Decide.{Decides}
 use Rattle.decide.specs.Laws.{same, less, most, equal, both, implies, each, some}
 use Rattle.policy.specs.declared.Sizes.{Sizes}
-use Rattle.knowledge.specs.Knowledge.{Knowledge, none, number, Sound}
-use Rattle.knowledge.specs.Run.{follow, Follow, steady, Steady, rises, Rises, level, Flat, put, may, May, Steady-runs}
+use Rattle.knowledge.specs.Knowledge.{Knowledge, none, Follow, Steady, Rises, Level, follow, steady, rises, level, free-place, number, Sound}
+use Rattle.knowledge.specs.Run.{put, may, May, Steady-runs}
 
 pub follow-decides : (v w d : ℕ) → Decides (follow v w d) (Follow v w d)
 unfolding follow
@@ -24,7 +26,7 @@ rises-decides f t =
     same (λ h. record { before = h .0; after = h .1 .0; apart = h .1 .1 }) (λ h. (h .before, (h .after, h .apart)))
     (both (less (f t) none) (both (less (f (suc t)) none) (equal (f (suc t)) (suc (f t)))))
 
-pub level-decides : (f : ℕ → ℕ) (m t : ℕ) → Decides (level f m t) (Flat f m t)
+pub level-decides : (f : ℕ → ℕ) (m t : ℕ) → Decides (level f m t) (Level f m t)
 unfolding level
 level-decides f m t =
     same
@@ -54,13 +56,81 @@ level-decides f m t =
     })
     (some 0 (suc t) _ _ (λ a. some (suc t) (m - t) _ _ (λ b. both (less (f a) none) (both (less (f b) none) (equal (f a) (f b))))))
 
+pub free-place-decides : (f : ℕ → ℕ) (p v : ℕ) → Decides (free-place f p v) ((v < none) × (f p < none → f p ≡ v))
+free-place-decides f p v = both (less v none) (implies (less (f p) none) (equal (f p) v))
+
 pub may-decides : (f : ℕ → ℕ) (n p v : ℕ) → Decides (may f n p v) (May f n p v)
 unfolding may
 may-decides f n p v =
     same (λ h. record { small = h .0 .0; nothing-else = h .0 .1; stored = h .1 }) (λ h. ((h .small, h .nothing-else), h .stored))
-    (both (both (less v none) (implies (less (f p) none) (equal (f p) v))) (steady-decides (put f p v) n))
+    (both (free-place-decides f p v) (steady-decides (put f p v) n))
+
+-- any two known places of a steady run, in either order, also one twice
+pub near : (f : ℕ → ℕ) (n : ℕ) → Steady f n → (a b : ℕ) → a < n → b < n → f a < none → f b < none → f a ≤ f b + (a - b)
+near f n S a b i j x y = go (decLt a b) (decLt b a)
+  where
+    go : Dec (a < b) → Dec (b < a) → f a ≤ f b + (a - b)
+    go (yes d) e = omega (arith, S .pairs b j a d x y)
+    go (no d) (yes e) = omega (arith, S .pairs a i b e y x)
+    go (no d) (no e) = let same : a ≡ b = omega arith in rw same (omega arith)
+
+pub follow-up : (f : ℕ → ℕ) (n : ℕ) → Steady f n → (a b : ℕ) → f a < none → f b < none → a ≤ b → b < n → Follow (f a) (f b) (b - a)
+follow-up f n S a b k l h w = omega (arith, near f n S a b (omega arith) w k l, near f n S b a w (omega arith) l k)
+
+-- a run does not both rise and stay level
+pub not-both : (f : ℕ → ℕ) (m t : ℕ) → Steady f (suc m) → t < m → Rises f t → Level f m t → ⊥
+not-both f m t S h r v =
+    let a = v .early-before in
+    let b = v .late-after in
+    let c = v .late-in in
+    omega (
+      arith,
+      r .apart,
+      v .equal,
+      near f (suc m) S (v .early) t (omega arith) (omega arith) (v .early-known) (r .before),
+      near f (suc m) S (suc t) (v .late) (omega arith) (omega arith) (r .after) (v .late-known),
+    )
+
+-- g has all the known numbers of f, at the first n places
+abbrev pub Within : (ℕ → ℕ) → (ℕ → ℕ) → ℕ → Type 0
+Within f g n = (i : ℕ) → i < n → f i < none → f i ≡ g i
+
+-- a run that knows less than a steady one is steady
+pub steady-less : (f g : ℕ → ℕ) (n : ℕ) → f 0 ≡ 0 → Within f g n → Steady g n → Steady f n
+steady-less f g n z e S = record {
+  first = z;
+  pairs = λ b l a lt ka kb.
+      let x = e a (omega arith) ka in
+      let y = e b l kb in
+      rw (x, y) (S .pairs b l a lt (rw x at ka) (rw y at kb));
+}
+
+-- and one that knows more tells as much
+pub rises-more : (f g : ℕ → ℕ) (m t : ℕ) → t < m → Within f g (suc m) → Rises f t → Rises g t
+rises-more f g m t l e R =
+    let x = e t (omega arith) (R .before) in
+    let y = e (suc t) (omega arith) (R .after) in
+    record { before = rw x at (R .before); after = rw y at (R .after); apart = sym y ∙ R .apart ∙ ap suc x }
+
+pub level-more : (f g : ℕ → ℕ) (m t : ℕ) → Within f g (suc m) → Level f m t → Level g m t
+level-more f g m t e v =
+    let a = v .early-before in
+    let b = v .late-after in
+    let c = v .late-in in
+    let x = e (v .early) (omega arith) (v .early-known) in
+    let y = e (v .late) (omega arith) (v .late-known) in
+    record {
+      early = v .early;
+      late = v .late;
+      early-before = a;
+      late-after = b;
+      late-in = c;
+      early-known = rw x at (v .early-known);
+      late-known = rw y at (v .late-known);
+      equal = sym x ∙ v .equal ∙ y;
+    }
 
 -- sound knowledge has steady runs
 pub runs-of : (z : Sizes) (k : Knowledge) → Sound z k → Steady-runs z (k .numbers)
 unfolding number
-runs-of z k s c l = record { first = s .first c l; pairs = λ b h a lt p q. let r = s .apart c a b l lt (omega arith) p q in record { up = r .0; slow = r .1 } }
+runs-of z k s = s .runs

@@ -9,8 +9,8 @@ use mathlib.Core.List.{List}
 use lib.ListN.{getD, length, set, length-set}
 use lib.Seq.{getD-set-same, getD-set-other}
 use lib.Bits.{bitOr}
-use Rattle.kleene.specs.Truth.{Truth, unknown, false3, true3}
-use Rattle.knowledge.specs.Knowledge.{none, Knowledge, Sized, noted, valued, fact, number, Sound, put-numbers, put-facts, stored}
+use Rattle.kleene.specs.Truth.{unknown, false3, true3}
+use Rattle.knowledge.specs.Knowledge.{none, Steady, Knowledge, Sized, noted, valued, fact, number, Sound, put-numbers, put-facts, stored}
 use Rattle.bits.specs.Bits.{bit, bit-or}
 use Rattle.rows.specs.Grid.{same-row, same-place, in-grid}
 use Rattle.policy.specs.declared.Sizes.{Sizes}
@@ -30,18 +30,19 @@ module _ (l : List ℕ) (i j a b d : ℕ) where
   neither-set : (x : ℕ) → (x ≡ i → ⊥) → (x ≡ j → ⊥) → getD (set (set l i a) j b) x d ≡ getD l x d
   neither-set x n o = getD-set-other (set l i a) j x b d o ∙ getD-set-other l i x a d n
 
+-- what storing m makes of a number or a fact: it is one that the message fixes, or it is as it was
+module _ (z : Sizes) (k : Knowledge) (m : Message) where
+  abbrev pub Number-cases : ℕ → ℕ → Type 0
+  Number-cases c p = ((n : ℕ) × (m .component ≡ c) × Fixes-number (m .event) p n) ⊎ (number z (stored z k m) c p ≡ number z k c p)
+
 -- a fact that is known, in two parts
 pub record Fact (k : Knowledge) (i t : ℕ) (b : Bool) : Type 0 where
   pub is : noted k i t ≡ true
   pub so : valued k i t ≡ b
 
-three-of : Bool → Bool → Truth
-three-of n v = cond n (cond v true3 false3) unknown
-
-told : Truth → ℕ
-told unknown = 0
-told true3 = 1
-told false3 = 2
+-- the knowledge l instead of k, after the event x
+abbrev pub Fact-cases : Event → Knowledge → Knowledge → ℕ → ℕ → Type 0
+Fact-cases x k l i t = ((b : Bool) × Fixes-fact x i t b × Fact l i t b) ⊎ ((noted l i t ≡ noted k i t) × (valued l i t ≡ valued k i t))
 
 pub fact-law : (k : Knowledge) (i t : ℕ) (b : Bool) → (fact k i t ≡ cond b true3 false3) ↔ Fact k i t b
 fact-law k i t b = (λ e. go (noted k i t) refl (valued k i t) refl b e, λ f. rw (f .is, f .so) refl)
@@ -111,8 +112,7 @@ module _ (c : Sizes) where
     unfolding stored number
     number-hit p n f = put-hit (k .numbers) (long .numbers) (m .component) (fits .component-in) (m .event) (fits .event-in) p n f
 
-    pub number-either : (s p : ℕ) → p ≤ c .minutes
-        → ((n : ℕ) × (m .component ≡ s) × Fixes-number (m .event) p n) ⊎ (number c (stored c k m) s p ≡ number c k s p)
+    pub number-either : (s p : ℕ) → p ≤ c .minutes → Number-cases c k m s p
     unfolding stored number
     number-either s p h = put-either (k .numbers) (m .component) (m .event) (fits .event-in) s p h
 
@@ -184,24 +184,32 @@ module _ (c : Sizes) where
         go (yes d) true e = inl (d, e)
         go (yes d) false e = inr (rw d (still-noted i e), rw d (still-valued i e))
 
+  -- what a message in range fixes is in range
+  pub fixed-place : (x : Event) → Fits-event c x → (p n : ℕ) → Fixes-number x p n → p ≤ c .minutes
+  fixed-place (Alive t n) f p v g = rw (g .0) f
+  fixed-place (Observation t n named values) f p v (inl g) = rw (g .0) (f .0)
+  fixed-place (Observation t n named values) f p v (inr g) = rw (g .0) (omega (arith, f .0))
+
+  pub fixed-fact : (x : Event) → Fits-event c x → (i u : ℕ) (b : Bool) → Fixes-fact x i u b → (i < c .propositions) × (u < c .minutes)
+  fixed-fact (Alive t n) f i u b g = absurd g
+  fixed-fact (Observation t n named values) f i u b g = (f .4 i (g .1), rw (g .0) (f .0))
+
   -- what is known after an observation or an alive is stored
   module _ (k : Knowledge) (m : Message) (long : Sized c k) (fits : Fits c m) (clean : Sound c k) (free : Free c k (m .component) (m .event)) where
     bit-cases : (x : Event) → Fits-event c x → Free c k (m .component) x → (cs : List ℕ) → (i u : ℕ) → i < 32
-        → ((b : Bool) × Fixes-fact x i u b × Fact (record { numbers = cs; facts = put-facts c (k .facts) x }) i u b)
-        ⊎ ((noted (record { numbers = cs; facts = put-facts c (k .facts) x }) i u ≡ noted k i u) × (valued (record { numbers = cs; facts = put-facts c (k .facts) x }) i u ≡ valued k i u))
+        → Fact-cases x k (record { numbers = cs; facts = put-facts c (k .facts) x }) i u
     unfolding noted valued
     bit-cases (Alive t n) f g cs i u h = inr (refl, refl)
     bit-cases (Observation t n named values) f g cs i u h = go (bits-either k t n named values f (long .facts) clean (m .component) g cs i u)
       where
-        go : ((u ≡ t) × (bit named i ≡ true)) ⊎ ((noted (next k t n named values f (long .facts) clean (m .component) g cs) i u ≡ noted k i u) × (valued (next k t n named values f (long .facts) clean (m .component) g cs) i u ≡ valued k i u))
-            → ((b : Bool) × Fixes-fact (Observation t n named values) i u b × Fact (next k t n named values f (long .facts) clean (m .component) g cs) i u b)
-            ⊎ ((noted (next k t n named values f (long .facts) clean (m .component) g cs) i u ≡ noted k i u) × (valued (next k t n named values f (long .facts) clean (m .component) g cs) i u ≡ valued k i u))
+        after : Knowledge
+        after = next k t n named values f (long .facts) clean (m .component) g cs
+
+        go : ((u ≡ t) × (bit named i ≡ true)) ⊎ ((noted after i u ≡ noted k i u) × (valued after i u ≡ valued k i u)) → Fact-cases (Observation t n named values) k after i u
         go (inl z) = inl (bit values i, (z .0, z .1, refl), rw (z .0) (named-there k t n named values f (long .facts) clean (m .component) g cs i h (z .1)))
         go (inr z) = inr z
 
-    pub fact-cases : (i u : ℕ) → i < 32
-        → ((b : Bool) × Fixes-fact (m .event) i u b × Fact (stored c k m) i u b)
-        ⊎ ((noted (stored c k m) i u ≡ noted k i u) × (valued (stored c k m) i u ≡ valued k i u))
+    pub fact-cases : (i u : ℕ) → i < 32 → Fact-cases (m .event) k (stored c k m) i u
     unfolding stored
     fact-cases i u h = bit-cases (m .event) (fits .event-in) free (put-numbers c (k .numbers) (m .component) (m .event)) i u h
 
@@ -219,15 +227,11 @@ module _ (c : Sizes) where
     pub facts-after : (i u : ℕ) (b : Bool) → i < 32 → Fact (stored c k m) i u b ↔ (Fact k i u b ⊎ Fixes-fact (m .event) i u b)
     facts-after i u b h = (λ z. there z (fact-cases i u h), back)
       where
-        there : Fact (stored c k m) i u b
-            → ((d : Bool) × Fixes-fact (m .event) i u d × Fact (stored c k m) i u d) ⊎ ((noted (stored c k m) i u ≡ noted k i u) × (valued (stored c k m) i u ≡ valued k i u))
-            → Fact k i u b ⊎ Fixes-fact (m .event) i u b
+        there : Fact (stored c k m) i u b → Fact-cases (m .event) k (stored c k m) i u → Fact k i u b ⊎ Fixes-fact (m .event) i u b
         there z (inl y) = let e : y .0 ≡ b = sym (y .2 .so) ∙ z .so in inr (rw e at (y .1))
         there z (inr y) = inl (record { is = sym (y .0) ∙ z .is; so = sym (y .1) ∙ z .so })
 
-        keep : Fact k i u b
-            → ((d : Bool) × Fixes-fact (m .event) i u d × Fact (stored c k m) i u d) ⊎ ((noted (stored c k m) i u ≡ noted k i u) × (valued (stored c k m) i u ≡ valued k i u))
-            → Fact (stored c k m) i u b
+        keep : Fact k i u b → Fact-cases (m .event) k (stored c k m) i u → Fact (stored c k m) i u b
         keep z (inl y) = record { is = y .2 .is; so = y .2 .so ∙ sym (free .facts i u (y .0) h (y .1) (z .is)) ∙ z .so }
         keep z (inr y) = record { is = y .0 ∙ z .is; so = y .1 ∙ z .so }
 
@@ -240,17 +244,13 @@ module _ (c : Sizes) where
         → (number c (stored c k m) s p ≡ n) ↔ ((number c k s p ≡ n) ⊎ ((m .component ≡ s) × Fixes-number (m .event) p n))
     numbers-after s p n h l = (λ e. there e (number-either k m long fits s p h), back)
       where
-        there : number c (stored c k m) s p ≡ n
-            → ((v : ℕ) × (m .component ≡ s) × Fixes-number (m .event) p v) ⊎ (number c (stored c k m) s p ≡ number c k s p)
-            → (number c k s p ≡ n) ⊎ ((m .component ≡ s) × Fixes-number (m .event) p n)
+        there : number c (stored c k m) s p ≡ n → Number-cases c k m s p → (number c k s p ≡ n) ⊎ ((m .component ≡ s) × Fixes-number (m .event) p n)
         there e (inl y) =
             let f : y .0 ≡ n = sym (number-hit k m long fits p (y .0) (y .2)) ∙ ap (λ (x : ℕ). number c (stored c k m) x p) (y .1) ∙ e in
             inr (y .1, rw f at (y .2))
         there e (inr y) = inl (sym y ∙ e)
 
-        keep : number c k s p ≡ n
-            → ((v : ℕ) × (m .component ≡ s) × Fixes-number (m .event) p v) ⊎ (number c (stored c k m) s p ≡ number c k s p)
-            → number c (stored c k m) s p ≡ n
+        keep : number c k s p ≡ n → Number-cases c k m s p → number c (stored c k m) s p ≡ n
         keep e (inl y) =
             ap (λ (x : ℕ). number c (stored c k m) x p) (sym (y .1)) ∙ number-hit k m long fits p (y .0) (y .2)
             ∙ sym (free .numbers p (y .0) (y .2) (rw (y .1, e) l)) ∙ ap (λ (x : ℕ). number c k x p) (y .1) ∙ e
@@ -260,12 +260,20 @@ module _ (c : Sizes) where
         back (inl e) = keep e (number-either k m long fits s p h)
         back (inr y) = ap (λ (x : ℕ). number c (stored c k m) x p) (sym (y .0)) ∙ number-hit k m long fits p n (y .1)
 
-  -- what a message in range fixes is in range
-  pub fixed-place : (x : Event) → Fits-event c x → (p n : ℕ) → Fixes-number x p n → p ≤ c .minutes
-  fixed-place (Alive t n) f p v g = rw (g .0) f
-  fixed-place (Observation t n named values) f p v (inl g) = rw (g .0) (f .0)
-  fixed-place (Observation t n named values) f p v (inr g) = rw (g .0) (omega (arith, f .0))
+    -- the facts stay sound: the stored knowledge is sound if its runs are steady
+    pub stored-sound : ((s : ℕ) → s < c .components → Steady (number c (stored c k m) s) (suc (c .minutes))) → Sound c (stored c k m)
+    stored-sound runs = record {
+      runs = runs;
+      values = λ i t l h e. values i t l h e (fact-cases i t l);
+      propositions = λ i t l h e. propositions i t l h e (fact-cases i t l);
+    }
+      where
+        values : (i t : ℕ) → i < 32 → t < c .minutes → valued (stored c k m) i t ≡ true → Fact-cases (m .event) k (stored c k m) i t
+            → noted (stored c k m) i t ≡ true
+        values i t l h e (inl z) = z .2 .is
+        values i t l h e (inr z) = z .0 ∙ clean .values i t l h (sym (z .1) ∙ e)
 
-  pub fixed-fact : (x : Event) → Fits-event c x → (i u : ℕ) (b : Bool) → Fixes-fact x i u b → (i < c .propositions) × (u < c .minutes)
-  fixed-fact (Alive t n) f i u b g = absurd g
-  fixed-fact (Observation t n named values) f i u b g = (f .4 i (g .1), rw (g .0) (f .0))
+        propositions : (i t : ℕ) → i < 32 → t < c .minutes → noted (stored c k m) i t ≡ true → Fact-cases (m .event) k (stored c k m) i t
+            → i < c .propositions
+        propositions i t l h e (inl z) = fixed-fact (m .event) (fits .event-in) i t (z .0) (z .1) .0
+        propositions i t l h e (inr z) = clean .propositions i t l h (sym (z .0) ∙ e)

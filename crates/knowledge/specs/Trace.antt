@@ -2,7 +2,7 @@
 -- minutes past M."
 use Prim.Native.Nat.{ℕ, zero, suc, _+_, _≤_, _<_}
 use mathlib.Core.Path.{_≡_}
-use mathlib.Core.Bool.{Bool, true, false, cond}
+use mathlib.Core.Bool.{Bool, false, cond}
 use mathlib.Core.List.{List, List·Memᴰ}
 use Rattle.mtl.specs.Algebra.{two, any}
 use Rattle.mtl.specs.Reading.{World}

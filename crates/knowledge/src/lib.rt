@@ -10,12 +10,16 @@ ghost use Rattle.kleene.specs.Truth.{codeOf, valueOf, or3};
 ghost use Rattle.rows.specs.Over.{Over};
 ghost use Rattle.mtl.specs.Algebra.{two, all};
 ghost use Rattle.message.specs.Fixes.{Fits};
-ghost use Rattle.knowledge.specs.Knowledge.{none, Sized, Sound, sound, admits, stored};
+ghost use Rattle.knowledge.specs.Knowledge.{most-minutes, none, run-of, Steady, follow, steady, word-sound, words-agree};
+ghost use Rattle.knowledge.specs.Knowledge.{Sized, Sound, sound, admits, stored};
 ghost use Rattle.knowledge.specs.Laws.{Limits};
-ghost use Rattle.knowledge.specs.Run.{cell, run-of, held, sent, follow, steady, Steady, Steady-runs, told, gap, may, Next, Previous, Point-row, word-sound, words-agree};
+ghost use Rattle.knowledge.specs.Run.{cell, held, sent, told, gap, joined, may, may-observe, Next, Previous, Steady-runs, Point-row};
 
 // A sequence number that is not known.
 const NONE: u16 = 65535;
+
+// The most minutes that a policy may have.
+const MOST_MINUTES: usize = 1024;
 
 // The first known place from `from` on, or the run's length.
 fn next_known(run: &[u16], from: usize) -> usize
@@ -60,7 +64,7 @@ fn follows(v: u16, w: u16, d: usize) -> bool
 
 // Is the run steady? What holds of neighbours among its known places holds of any two.
 fn is_steady(run: &[u16]) -> bool
-    requires { ⌜ (0 < length (now run)) × (length (now run) ≤ 1025) ⌝ }
+    requires { ⌜ (0 < length (now run)) × (length (now run) ≤ suc most-minutes) ⌝ }
     ensures { λ r. ⌜ r ≡ steady (cell (now (run .entry))) (length (now (run .entry))) ⌝ }
 {
     if run[0] != 0 {
@@ -85,7 +89,9 @@ fn is_steady(run: &[u16]) -> bool
 
 // May the number v be stored at the place?
 fn may_store(run: &[u16], place: usize, v: u16) -> bool
-    requires { ⌜ (length (now run) ≤ 1025) × Steady (cell (now run)) (length (now run)) × (place < length (now run)) ⌝ }
+    requires { ⌜ (length (now run) ≤ suc most-minutes)
+        × Steady (cell (now run)) (length (now run))
+        × (place < length (now run)) ⌝ }
     ensures { λ r. ⌜ r ≡ may (cell (now (run .entry))) (length (now (run .entry))) place v ⌝ }
 {
     if v == NONE {
@@ -133,9 +139,9 @@ fn merge(x: u8, y: u8) -> u8
 }
 
 // Joins the cells from lo up to hi with a code.
-fn join(row: &mut [u8; 1024], lo: usize, hi: usize, code: u8)
-    requires { ⌜ (lo ≤ hi) × (hi ≤ 1024) × (length (now row) ≡ 1024) ⌝ }
-    ensures { λ _. ⌜ Over (λ i. codeOf (or3 (valueOf (getD (now (row .entry)) i 0)) (valueOf code))) lo hi (now (row .entry)) (now (row .exit)) ⌝ }
+fn join(row: &mut [u8; MOST_MINUTES], lo: usize, hi: usize, code: u8)
+    requires { ⌜ (lo ≤ hi) × (hi ≤ most-minutes) × (length (now row) ≡ most-minutes) ⌝ }
+    ensures { λ _. ⌜ Over (joined (now (row .entry)) (λ _. valueOf code)) lo hi (now (row .entry)) (now (row .exit)) ⌝ }
 {
     let mut i = lo;
     while i < hi {
@@ -145,9 +151,9 @@ fn join(row: &mut [u8; 1024], lo: usize, hi: usize, code: u8)
 }
 
 // Joins the cells of a gap. Most gaps of a full record are one minute long and need no loop.
-fn join_gap(row: &mut [u8; 1024], lo: usize, hi: usize, code: u8)
-    requires { ⌜ (lo ≤ hi) × (hi ≤ 1024) × (length (now row) ≡ 1024) ⌝ }
-    ensures { λ _. ⌜ Over (λ i. codeOf (or3 (valueOf (getD (now (row .entry)) i 0)) (valueOf code))) lo hi (now (row .entry)) (now (row .exit)) ⌝ }
+fn join_gap(row: &mut [u8; MOST_MINUTES], lo: usize, hi: usize, code: u8)
+    requires { ⌜ (lo ≤ hi) × (hi ≤ most-minutes) × (length (now row) ≡ most-minutes) ⌝ }
+    ensures { λ _. ⌜ Over (joined (now (row .entry)) (λ _. valueOf code)) lo hi (now (row .entry)) (now (row .exit)) ⌝ }
 {
     if hi - lo == 1 {
         row[lo] = merge(row[lo], code);
@@ -157,9 +163,13 @@ fn join_gap(row: &mut [u8; 1024], lo: usize, hi: usize, code: u8)
 }
 
 // Joins a row with what the run tells of each minute, gap by gap.
-fn join_run(row: &mut [u8; 1024], run: &[u16])
-    requires { ⌜ (0 < length (now run)) × (length (now run) ≤ 1025) × Steady (cell (now run)) (length (now run)) × (length (now row) ≡ 1024) ⌝ }
-    ensures { λ _. ⌜ ((m : ℕ) → suc m ≡ length (now (run .entry)) → Over (λ t. codeOf (or3 (valueOf (getD (now (row .entry)) t 0)) (told (cell (now (run .entry))) m t))) 0 m (now (row .entry)) (now (row .exit))) ⌝ }
+fn join_run(row: &mut [u8; MOST_MINUTES], run: &[u16])
+    requires { ⌜ (0 < length (now run))
+        × (length (now run) ≤ suc most-minutes)
+        × Steady (cell (now run)) (length (now run))
+        × (length (now row) ≡ most-minutes) ⌝ }
+    ensures { λ _. ⌜ ((m : ℕ) → suc m ≡ length (now (run .entry))
+        → Over (joined (now (row .entry)) (told (cell (now (run .entry))) m)) 0 m (now (row .entry)) (now (row .exit))) ⌝ }
 {
     let mut p: usize = 0;
     let mut q = next_known(run, 1);
@@ -173,7 +183,7 @@ fn join_run(row: &mut [u8; 1024], run: &[u16])
 
 // Is every component's run steady?
 fn are_steady(numbers: &[u16], components: usize, minutes: usize) -> bool
-    requires { ⌜ (minutes ≤ 1024) × (length (now numbers) ≡ components * suc minutes) ⌝ }
+    requires { ⌜ (minutes ≤ most-minutes) × (length (now numbers) ≡ components * suc minutes) ⌝ }
     ensures { λ r. ⌜ r ≡ all two 0 components (λ c. steady (run-of (now (numbers .entry)) minutes c) (suc minutes)) ⌝ }
 {
     let mut c: usize = 0;
@@ -202,7 +212,8 @@ fn is_word_sound(known: u32, values: u32, limit: usize) -> bool
 // Are the facts of every minute sound?
 fn are_facts_sound(facts: &[u32], propositions: usize, minutes: usize) -> bool
     requires { ⌜ (propositions ≤ 32) × (length (now facts) ≡ 2 * minutes) ⌝ }
-    ensures { λ r. ⌜ r ≡ all two 0 minutes (λ t. word-sound propositions (getD (now (facts .entry)) (2 * t) 0) (getD (now (facts .entry)) (2 * t + 1) 0)) ⌝ }
+    ensures { λ r. ⌜ r ≡ all two 0 minutes
+        (λ t. word-sound propositions (getD (now (facts .entry)) (2 * t) 0) (getD (now (facts .entry)) (2 * t + 1) 0)) ⌝ }
 {
     let limit = 1usize << propositions;
     let mut t: usize = 0;
@@ -235,8 +246,11 @@ fn do_words_agree(known: u32, old: u32, named: u32, values: u32) -> bool
 
 // May an observation's two numbers be stored in the run? Each is tried by itself, and that decides both.
 fn may_observe(run: &[u16], minute: usize, number: u16) -> bool
-    requires { ⌜ (length (now run) ≤ 1025) × Steady (cell (now run)) (length (now run)) × (suc minute < length (now run)) × (1 ≤ number) ⌝ }
-    ensures { λ r. ⌜ r ≡ (may (cell (now (run .entry))) (length (now (run .entry))) (suc minute) number && may (cell (now (run .entry))) (length (now (run .entry))) minute (number - 1)) ⌝ }
+    requires { ⌜ (length (now run) ≤ suc most-minutes)
+        × Steady (cell (now run)) (length (now run))
+        × (suc minute < length (now run))
+        × (1 ≤ number) ⌝ }
+    ensures { λ r. ⌜ r ≡ may-observe (cell (now (run .entry))) (length (now (run .entry))) minute number ⌝ }
 {
     if !may_store(run, minute + 1, number) {
         return false;
@@ -253,8 +267,14 @@ fn admits_observation(
     named: u32,
     values: u32,
 ) -> bool
-    requires { ⌜ (length (now run) ≤ 1025) × Steady (cell (now run)) (length (now run)) × (suc minute < length (now run)) × (1 ≤ number) × (2 * minute + 1 < length (now facts)) ⌝ }
-    ensures { λ r. ⌜ r ≡ (words-agree (getD (now (facts .entry)) (2 * minute) 0) (getD (now (facts .entry)) (2 * minute + 1) 0) named values && (may (cell (now (run .entry))) (length (now (run .entry))) (suc minute) number && may (cell (now (run .entry))) (length (now (run .entry))) minute (number - 1))) ⌝ }
+    requires { ⌜ (length (now run) ≤ suc most-minutes)
+        × Steady (cell (now run)) (length (now run))
+        × (suc minute < length (now run))
+        × (1 ≤ number)
+        × (2 * minute + 1 < length (now facts)) ⌝ }
+    ensures { λ r. ⌜ r
+        ≡ (words-agree (getD (now (facts .entry)) (2 * minute) 0) (getD (now (facts .entry)) (2 * minute + 1) 0) named values
+        && may-observe (cell (now (run .entry))) (length (now (run .entry))) minute number) ⌝ }
 {
     if !do_words_agree(facts[2 * minute], facts[2 * minute + 1], named, values) {
         return false;
@@ -270,7 +290,10 @@ pub fn admits_message(
     component: usize,
     event: Event,
 ) -> bool
-    requires { ⌜ Limits sizes × Sized sizes (held (now numbers) (now facts)) × Sound sizes (held (now numbers) (now facts)) × Fits sizes (sent component event) ⌝ }
+    requires { ⌜ Limits sizes
+        × Sized sizes (held (now numbers) (now facts))
+        × Sound sizes (held (now numbers) (now facts))
+        × Fits sizes (sent component event) ⌝ }
     ensures { λ r. ⌜ r ≡ admits sizes (held (now (numbers .entry)) (now (facts .entry))) (sent component event) ⌝ }
 {
     let at = component * (sizes.minutes + 1);
@@ -305,7 +328,9 @@ fn store_numbers(numbers: &mut [u16], place: usize, number: u16)
 // Stores what an observation says of its minute's propositions.
 fn store_facts(facts: &mut [u32], place: usize, named: u32, values: u32)
     requires { ⌜ place + 1 < length (now facts) ⌝ }
-    ensures { λ _. ⌜ now (facts .exit) ≡ set (set (now (facts .entry)) place (bitOr (getD (now (facts .entry)) place 0) named)) (place + 1) (bitOr (getD (now (facts .entry)) (place + 1) 0) values) ⌝ }
+    ensures { λ _. ⌜ now (facts .exit) ≡ set
+        (set (now (facts .entry)) place (bitOr (getD (now (facts .entry)) place 0) named))
+        (place + 1) (bitOr (getD (now (facts .entry)) (place + 1) 0) values) ⌝ }
 {
     let known = facts[place];
     let old = facts[place + 1];
@@ -316,8 +341,10 @@ fn store_facts(facts: &mut [u32], place: usize, named: u32, values: u32)
 // Stores what the message fixes, and nothing else.
 pub fn store(sizes: Sizes, numbers: &mut [u16], facts: &mut [u32], component: usize, event: Event)
     requires { ⌜ Limits sizes × Sized sizes (held (now numbers) (now facts)) × Fits sizes (sent component event) ⌝ }
-    ensures { λ _. ⌜ now (numbers .exit) ≡ stored sizes (held (now (numbers .entry)) (now (facts .entry))) (sent component event) .numbers ⌝ }
-    ensures { λ _. ⌜ now (facts .exit) ≡ stored sizes (held (now (numbers .entry)) (now (facts .entry))) (sent component event) .facts ⌝ }
+    ensures stores_numbers { λ _. ⌜ now (numbers .exit)
+        ≡ stored sizes (held (now (numbers .entry)) (now (facts .entry))) (sent component event) .numbers ⌝ }
+    ensures stores_facts { λ _. ⌜ now (facts .exit)
+        ≡ stored sizes (held (now (numbers .entry)) (now (facts .entry))) (sent component event) .facts ⌝ }
 {
     let at = component * (sizes.minutes + 1);
     match event {
@@ -338,8 +365,8 @@ pub fn store(sizes: Sizes, numbers: &mut [u16], facts: &mut [u32], component: us
 }
 
 // Fills the cells below m with "false".
-fn fill(row: &mut [u8; 1024], m: usize)
-    requires { ⌜ (m ≤ 1024) × (length (now row) ≡ 1024) ⌝ }
+fn fill(row: &mut [u8; MOST_MINUTES], m: usize)
+    requires { ⌜ (m ≤ most-minutes) × (length (now row) ≡ most-minutes) ⌝ }
     ensures { λ _. ⌜ Over (λ i. 2) 0 m (now (row .entry)) (now (row .exit)) ⌝ }
 {
     let mut i = 0;
@@ -350,13 +377,15 @@ fn fill(row: &mut [u8; 1024], m: usize)
 }
 
 // Which minutes are time points (01: busy, quiet or open), as truth codes; the cells past the last minute are 0.
-pub fn point_row(sizes: Sizes, numbers: &[u16]) -> [u8; 1024]
-    requires { ⌜ (sizes .minutes ≤ 1024) × (length (now numbers) ≡ sizes .components * suc (sizes .minutes)) × Steady-runs sizes (now numbers) ⌝ }
+pub fn point_row(sizes: Sizes, numbers: &[u16]) -> [u8; MOST_MINUTES]
+    requires { ⌜ (sizes .minutes ≤ most-minutes)
+        × (length (now numbers) ≡ sizes .components * suc (sizes .minutes))
+        × Steady-runs sizes (now numbers) ⌝ }
     ensures { λ r. ⌜ Point-row sizes (now (numbers .entry)) r ⌝ }
 {
     let components = sizes.components;
     let minutes = sizes.minutes;
-    let mut row = [0u8; 1024];
+    let mut row = [0u8; MOST_MINUTES];
     fill(&mut row, minutes);
     let mut c: usize = 0;
     let mut at: usize = 0;

@@ -76,8 +76,10 @@ module _ (c : Policy) where
 
   pub fresh-sound : Sound (c .sizes) (fresh (c .sizes))
   fresh-sound = record {
-    first = fresh-first;
-    apart = λ s a b l h k x y. absurd (omega (arith, fresh-known s b (number (c .sizes) (fresh (c .sizes)) s b) l k y refl));
+    runs = λ s l. record {
+      first = fresh-first s l;
+      pairs = λ b k a h x y. absurd (omega (arith, fresh-known s b (number (c .sizes) (fresh (c .sizes)) s b) l (omega arith) y refl));
+    };
     values = λ i t l h e. absurd (true≢false (sym e ∙ fresh-valued i t));
     propositions = λ i t l h e. absurd (true≢false (sym e ∙ fresh-noted i t));
   }
@@ -90,7 +92,7 @@ module _ (c : Policy) where
       go false e = e
       go true e =
           let k = point-law (c .sizes) (fresh (c .sizes)) t .0 e in
-          absurd (omega (arith, fresh-known (k .component) (suc t) (number (c .sizes) (fresh (c .sizes)) (k .component) (suc t)) (k .is-component) h (k .after) refl))
+          absurd (omega (arith, fresh-known (k .component) (suc t) (number (c .sizes) (fresh (c .sizes)) (k .component) (suc t)) (k .is-component) h (k .rise .after) refl))
 
   fresh-verdict : (r t : ℕ) → t < c .sizes .minutes → verdict c (fresh (c .sizes)) r t ≡ 0
   fresh-verdict r t h = ap (λ (x : Bool). cond x (codeOf (value c (fresh (c .sizes)) (getD (rulesOf c) r 0) t)) 0) (fresh-open t h)

@@ -11,7 +11,7 @@ use lib.ListN.{getD}
 use lib.Pow.{shl-exact}
 use Rattle.mtl.specs.Algebra.{two, all}
 use Rattle.decide.specs.Laws.{each-fails, each-more}
-use Rattle.knowledge.specs.Run.{word-sound}
+use Rattle.knowledge.specs.Knowledge.{word-sound}
 use Rattle.knowledge.proofs.are_facts_sound.Statement.{statement}
 use Rattle.knowledge.proofs.are_facts_sound.Tie as tie
 

@@ -8,7 +8,7 @@ use native.Mathlib.Omega.{arith}
 use denote.Ref.{now}
 use Rattle.mtl.specs.Algebra.{two, all}
 use Rattle.decide.specs.Laws.{each-fails, each-more}
-use Rattle.knowledge.specs.Run.{run-of, steady}
+use Rattle.knowledge.specs.Knowledge.{run-of, steady}
 use Rattle.knowledge.proofs.Parts.{part-long, part-steady, one-run, room}
 use Rattle.knowledge.proofs.are_steady.Statement.{statement}
 use Rattle.knowledge.proofs.are_steady.Tie as tie

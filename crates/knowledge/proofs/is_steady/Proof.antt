@@ -9,7 +9,8 @@ use native.Mathlib.Omega.{arith}
 use denote.Ref.{now}
 use lib.ListN.{length}
 use Rattle.decide.specs.Laws.{is-false, fails}
-use Rattle.knowledge.specs.Run.{cell, Follow}
+use Rattle.knowledge.specs.Knowledge.{Follow}
+use Rattle.knowledge.specs.Run.{cell}
 use Rattle.knowledge.specs.Runs.{follow-decides, steady-decides}
 use Rattle.knowledge.proofs.Walk.{start, Come, come-known, come-unknown, come-end, come-fail}
 use Rattle.knowledge.proofs.is_steady.Statement.{statement}

@@ -4,15 +4,15 @@ use mathlib.Core.Path.{subst, ap, _∙_}
 use Prim.Native.Nat.{ℕ, _-_, _≤_}
 use native.Mathlib.Omega.{arith}
 use denote.Ref.{now}
-use lib.ListN.{getD}
 use Rattle.kleene.specs.Truth.{codeOf, valueOf, or3}
 use Rattle.rows.specs.Over.{Over}
 use Rattle.rows.specs.Laws.{untouched, one-more}
+use Rattle.knowledge.specs.Run.{joined}
 use Rattle.knowledge.proofs.join.Statement.{statement}
 use Rattle.knowledge.proofs.join.Tie as tie
 
 abbrev Inv-loop : tie.InvT-loop
-Inv-loop row₀ lo hi code i₀ row i = (lo ≤ i) × (i ≤ hi) × Over (λ j. codeOf (or3 (valueOf (getD row₀ j 0)) (valueOf code))) lo i row₀ row
+Inv-loop row₀ lo hi code i₀ row i = (lo ≤ i) × (i ≤ hi) × Over (joined row₀ (λ _. valueOf code)) lo i row₀ row
 
 abbrev μ-loop : tie.MeasureT-loop
 μ-loop row₀ lo hi code i₀ row i = hi - i
@@ -51,7 +51,7 @@ returns : tie.Need-returns Inv-loop μ-loop
 returns c =
     let l = c .before in
     let x = l .before .args in
-    subst (λ (n : ℕ). Over (λ j. codeOf (or3 (valueOf (getD (now (x .row)) j 0)) (valueOf (x .code)))) (x .lo) n (now (x .row)) (l .loop .row)) (omega arith) (l .loop .inv .2)
+    subst (λ (n : ℕ). Over (joined (now (x .row)) (λ _. valueOf (x .code))) (x .lo) n (now (x .row)) (l .loop .row)) (omega arith) (l .loop .inv .2)
 
 pub join-spec : {M : Type 1} → statement M
 join-spec =

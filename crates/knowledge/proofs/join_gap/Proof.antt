@@ -3,17 +3,14 @@ use mathlib.Core.Path.{_≡_, sym, subst}
 use Prim.Native.Nat.{ℕ, _+_}
 use native.Mathlib.Omega.{arith}
 use denote.Ref.{now}
-use lib.ListN.{getD, set}
-use Rattle.kleene.specs.Truth.{codeOf, valueOf, or3}
+use lib.ListN.{set}
+use Rattle.kleene.specs.Truth.{valueOf}
 use Rattle.rows.specs.Over.{Over}
 use Rattle.rows.specs.Laws.{untouched, one-more}
 use borrow.Author.Needs.{needs}
+use Rattle.knowledge.specs.Run.{joined}
 use Rattle.knowledge.proofs.join_gap.Statement.{statement}
 use Rattle.knowledge.proofs.join_gap.Tie as tie
-use Rattle.knowledge.proofs.join_gap.Reads as reads
-use Rattle.knowledge.proofs.join_gap.Lts as lts
-use Rattle.knowledge.proofs.merge.Reads as merge-reads
-use Rattle.knowledge.proofs.join.Reads as join-reads
 
 sub-if1 : tie.Need-sub-if1
 sub-if1 c = search needs
@@ -33,7 +30,7 @@ returns c =
     let x = s .args in
     let old = now (x .row) in
     let one : x .hi ≡ x .lo + 1 = omega (arith, c .before .before .if1 .taken) in
-    subst (λ (n : ℕ). Over (λ i. codeOf (or3 (valueOf (getD old i 0)) (valueOf (x .code)))) (x .lo) n old (set old (x .lo) (c .merge .result))) (sym one)
+    subst (λ (n : ℕ). Over (joined old (λ _. valueOf (x .code))) (x .lo) n old (set old (x .lo) (c .merge .result))) (sym one)
     (one-more _ (x .lo) (x .lo) old old (c .merge .result) (untouched _ (x .lo) old) (omega arith) (omega (arith, one)) (c .merge .ensures))
 
 join-requires : tie.Need-join-requires

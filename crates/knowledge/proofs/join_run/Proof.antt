@@ -8,17 +8,17 @@ use lib.ListN.{length}
 use Rattle.kleene.specs.Truth.{codeOf, read-back}
 use Rattle.rows.specs.Over.{Over}
 use Rattle.rows.specs.Laws.{untouched}
-use Rattle.knowledge.specs.Knowledge.{none}
-use Rattle.knowledge.specs.Run.{cell, Next, told}
+use Rattle.knowledge.specs.Knowledge.{most-minutes, none}
+use Rattle.knowledge.specs.Run.{cell, joined, Next, told}
 use Rattle.knowledge.proofs.Gap.{in-gap, after-last}
-use Rattle.knowledge.proofs.Points.{joined, stretch}
+use Rattle.knowledge.proofs.Points.{stretch}
 use Rattle.knowledge.proofs.join_run.Statement.{statement}
 use Rattle.knowledge.proofs.join_run.Tie as tie
 
 abbrev Inv-loop : tie.InvT-loop
 Inv-loop row₀ run p₀ q₀ row p q =
-    (cell run p < none) × Next (cell run) (length run) (p + 1) q × (length row ≡ 1024)
-    × ((m : ℕ) → suc m ≡ length run → Over (joined (cell run) m row₀) 0 p row₀ row)
+    (cell run p < none) × Next (cell run) (length run) (p + 1) q × (length row ≡ most-minutes)
+    × ((m : ℕ) → suc m ≡ length run → Over (joined row₀ (told (cell run) m)) 0 p row₀ row)
 
 abbrev μ-loop : tie.MeasureT-loop
 μ-loop row₀ run p₀ q₀ row p q = length run - q
@@ -30,7 +30,7 @@ loop-holds : tie.Need-loop-holds Inv-loop μ-loop
 loop-holds c =
     let s = c .before .before in
     let first = s .pre .2 .first in
-    (omega arith, c .next-known .ensures, s .pre .3, λ m e. untouched (joined (cell (now (s .args .run))) m (now (s .args .row))) 0 (now (s .args .row)))
+    (omega arith, c .next-known .ensures, s .pre .3, λ m e. untouched (joined (now (s .args .row)) (told (cell (now (s .args .run))) m)) 0 (now (s .args .row)))
 
 mul-gap-code : tie.Need-mul-gap-code Inv-loop μ-loop
 mul-gap-code c = omega arith
@@ -95,7 +95,7 @@ returns c m e =
     let v = l .loop .inv in
     let within = v .1 .within in
     let last : length (now (s .args .run)) - 1 ≡ m = omega arith in
-    subst (λ (n : ℕ). Over (joined f m (now (s .args .row))) 0 n (now (s .args .row)) (c .join .last .0)) last
+    subst (λ (n : ℕ). Over (joined (now (s .args .row)) (told f m)) 0 n (now (s .args .row)) (c .join .last .0)) last
     (stretch f m (l .loop .p) (length (now (s .args .run)) - 1) (now (s .args .row)) (l .loop .row) _ 0 (v .3 m e) (c .join .ensures) (omega arith)
     (λ t from to. sym (after-last f m (l .loop .p) (l .loop .q) t (rw e (s .pre .2)) (v .0) (rw e (v .1)) from (omega arith) (omega arith))))
 

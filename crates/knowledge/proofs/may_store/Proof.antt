@@ -10,8 +10,8 @@ use native.Mathlib.Omega.{arith}
 use denote.Ref.{now}
 use lib.ListN.{length}
 use Rattle.decide.specs.Laws.{is-false, fails, agree, same, equal}
-use Rattle.knowledge.specs.Knowledge.{none}
-use Rattle.knowledge.specs.Run.{cell, Follow, May}
+use Rattle.knowledge.specs.Knowledge.{none, Follow}
+use Rattle.knowledge.specs.Run.{cell, May}
 use Rattle.knowledge.specs.Runs.{follow-decides, may-decides}
 use Rattle.knowledge.proofs.Putting.{again, steady-new, needs-below, needs-above}
 use Rattle.knowledge.proofs.may_store.Statement.{statement}

@@ -2,8 +2,6 @@
 use Rattle.knowledge.proofs.Merging.{merge-says, says-true, says-false, says-neither}
 use Rattle.knowledge.proofs.merge.Statement.{statement}
 use Rattle.knowledge.proofs.merge.Tie as tie
-use Rattle.knowledge.proofs.merge.Reads as reads
-use Rattle.knowledge.proofs.merge.Lts as lts
 
 returns : tie.Need-returns
 returns c = says-true _ _ _ (merge-says (c .before .args .x) (c .before .args .y)) (c .if1 .taken)

@@ -8,6 +8,7 @@ use denote.Ref.{now}
 use lib.ListN.{length, getD, length-replicate}
 use Rattle.kleene.specs.Truth.{codeOf}
 use Rattle.rows.specs.Laws.{zeros}
+use Rattle.knowledge.specs.Knowledge.{most-minutes}
 use Rattle.knowledge.proofs.Parts.{part-long, part-is-steady, part-told, one-run, room}
 use Rattle.knowledge.proofs.Points.{points, all-points, one-more-run}
 use Rattle.knowledge.proofs.point_row.Statement.{statement}
@@ -15,14 +16,14 @@ use Rattle.knowledge.proofs.point_row.Tie as tie
 
 abbrev Inv-loop : tie.InvT-loop
 Inv-loop numbers components minutes row₀ c₀ at₀ row c at =
-    (c ≤ components) × (at ≡ c * suc minutes) × (length row ≡ 1024)
+    (c ≤ components) × (at ≡ c * suc minutes) × (length row ≡ most-minutes)
     × ((t : ℕ) → t < minutes → getD row t 0 ≡ codeOf (points numbers minutes c t)) × ((t : ℕ) → minutes ≤ t → getD row t 0 ≡ 0)
 
 abbrev μ-loop : tie.MeasureT-loop
 μ-loop numbers components minutes row₀ c₀ at₀ row c at = components - c
 
 fill-requires : tie.Need-fill-requires Inv-loop μ-loop
-fill-requires c κs = (omega arith, length-replicate {A = ℕ} 1024 0)
+fill-requires c κs = (omega arith, length-replicate {A = ℕ} most-minutes 0)
 
 loop-holds : tie.Need-loop-holds Inv-loop μ-loop
 unfolding points
@@ -30,9 +31,9 @@ loop-holds c =
     let over = c .fill .ensures in (
       omega arith,
       omega arith,
-      over .long ∙ length-replicate {A = ℕ} 1024 0,
+      over .long ∙ length-replicate {A = ℕ} most-minutes 0,
       λ t l. over .inside t (omega arith) l,
-      λ t l. over .above t l ∙ zeros 1024 t,
+      λ t l. over .above t l ∙ zeros most-minutes t,
     )
 
 add-end : tie.Need-add-end Inv-loop μ-loop
