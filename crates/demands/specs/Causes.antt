@@ -1,24 +1,23 @@
--- Each refusal has its own cause: the policy's reader answers 1 to 4 only, the message's 7 and 8 only, and each check between one number.
+-- Each refusal has its own cause. A call is refused as its list of checks says (the law of checks), the policy's checks answer 1 to 4 only, and each
+-- check after them one number: so a number's cause is that the checks before its own pass and its own fails.
 use Prim.Native.Nat.{ℕ, _≤_}
 use native.Mathlib.Omega.{arith}
 use mathlib.Core.Path.{_≡_, refl, sym, ap, _∙_}
 use mathlib.Core.Bool.{Bool, true, false, true≢false}
-use mathlib.Core.Logic.{_↔_}
-use mathlib.Core.List.{List}
-use lib.Dec.{eqb, leb}
+use mathlib.Core.Logic.{_↔_, _⊎_, inl, inr}
+use mathlib.Core.List.{List, [], _∷_, _++_}
 use lib.ListN.{length}
 use Rattle.refusal.specs.declared.Refusal.{Refusal}
-use Rattle.refusal.specs.declared.Refusal.the-variants.{TruncatedPolicy, BadHeading, BadSubformula, RuleCount, BufferSize, CorruptKnowledge, TruncatedMessage, BadMessage, Conflict, OutOfRange}
-use Rattle.refusal.specs.Numbers.{numberOf}
-use Rattle.policy.specs.declared.Sizes.{Sizes}
+use Rattle.refusal.specs.declared.Refusal.the-variants.{TruncatedPolicy, BadHeading, BadSubformula, RuleCount, BufferSize, CorruptKnowledge, TruncatedMessage, BadMessage, Conflict}
 use Rattle.refusal.specs.declared.Answer.{Answer as Checked}
 use Rattle.refusal.specs.declared.Answer.the-variants as C
-use Rattle.refusal.specs.Laws.{refusal-law}
-use Rattle.policy.specs.Chained.{check}
+use Rattle.refusal.specs.Numbers.{numberOf, placeOf, refusal-of}
+use Rattle.refusal.specs.Checks.{Check, check, first-failed, Passed as All-passed, none, pass, Refuses, here, there, Refused-with}
+use Rattle.refusal.specs.Laws.{refusal-law, passing-law, refused-before, refused-after, passed-both, passed-parts, refused-where, other-number, number-law, not-accepted}
 use Rattle.policy.specs.Format.{policy-checks, answerOf as policy-answer, policyOf}
-use Rattle.policy.specs.Causes.{policy-refuses}
 use Rattle.policy.specs.Proper.{Causes as Policy-reader-causes}
-use Rattle.message.specs.Format.{lengthOf, goodMessage, answerOf as message-answer}
+use Rattle.policy.specs.Causes.{policy-refuses}
+use Rattle.message.specs.Format.{lengthOf, goodMessage, message-checks, answerOf as message-answer}
 use Rattle.message.specs.Fixes.{Fits, Well-formed, meaningOf}
 use Rattle.message.specs.Proper.{Causes as Message-reader-causes}
 use Rattle.knowledge.specs.Knowledge.{Sound, sound, admits}
@@ -26,234 +25,261 @@ use Rattle.knowledge.specs.Laws.{Limits, sound-law}
 use Rattle.knowledge.specs.Conflict.{admits-law}
 use Rattle.monitor.specs.declared.Answer.{Answer}
 use Rattle.monitor.specs.declared.Answer.the-variants.{Done, Received, Refused}
-use Rattle.monitor.specs.State.{State, Outcome, Sized, sized, opened, settle, refused, guard, afterwards, open-state, receive}
-use Rattle.monitor.specs.Demands.{sizesOf, Some-trace, Policy-causes, Policy-passed, Opening-causes, Passed, Take-causes}
-use Rattle.monitor.specs.Laws.{long-of}
-use Rattle.monitor.specs.Laws.{sized-law}
+use Rattle.monitor.specs.State.{State, Outcome, unless, Sized, sized, opened, settled, slip-checks, record-checks, opening-checks, take-checks, open-state, receive, Taken}
+use Rattle.monitor.specs.Demands.{sizesOf, Some-trace, reply, Policy-causes, Policy-passed, Opening-causes, Passed, Take-causes}
+use Rattle.monitor.specs.Laws.{long-of, sized-law}
 
--- ---- which numbers the readers answer
+-- ---- ways to read the laws
 
--- a refusal in the answer has a number from least to most
-abbrev pub Numbered : ℕ → ℕ → Checked → Type 0
-Numbered least most C.Accepted = Unit
-Numbered least most (C.Refused r) = (least ≤ numberOf r) × (numberOf r ≤ most)
+-- from one equivalence to the next
+pub via : {A B C : Type 0} → A ↔ B → B ↔ C → A ↔ C
+via f g = (λ a. g .0 (f .0 a), λ c. f .1 (g .1 c))
 
-pub policy-numbered : (s : List ℕ) → Numbered 1 4 (policy-answer s)
-unfolding policy-answer
-policy-numbered s = go (policy-answer s) refl
+-- the refusal that a number and a place name is one of place 0, or one with that place
+pub at-zero-two : {A B C : Type 0} {at : ℕ} {n : ℕ} → A ↔ (B × C) → (A × (n ≡ n) × (0 ≡ at)) ↔ ((at ≡ 0) × B × C)
+at-zero-two f = (λ q. let b = f .0 (q .0) in (sym (q .2), b .0, b .1), λ q. (f .1 (q .1, q .2), refl, sym (q .0)))
+
+pub at-zero-three : {A B C D : Type 0} {at : ℕ} {n : ℕ} → A ↔ (B × C × D) → (A × (n ≡ n) × (0 ≡ at)) ↔ ((at ≡ 0) × B × C × D)
+at-zero-three f = (λ q. let b = f .0 (q .0) in (sym (q .2), b .0, b .1, b .2), λ q. (f .1 (q .1, q .2, q .3), refl, sym (q .0)))
+
+pub at-place : {A B : Type 0} {at n : ℕ} → A ↔ B → (A × (n ≡ n) × (at ≡ at)) ↔ B
+at-place f = (λ q. f .0 (q .0), λ b. (f .1 b, refl, refl))
+
+-- the one check of a list
+pub one-fails : (b : Bool) (r : Refusal) → Refuses (check b r ∷ []) r ↔ (b ≡ false)
+one-fails b r = (first, here)
   where
-    go : (a : Checked) → policy-answer s ≡ a → Numbered 1 4 a
-    go C.Accepted e = tt
-    go (C.Refused r) e = policy-refuses s r (refusal-law (policy-checks s) r .0 e)
+    first : Refuses (check b r ∷ []) r → b ≡ false
+    first (here e) = e
 
-message-numbered : (z : Sizes) (b : List ℕ) → Numbered 7 8 (message-answer z b)
-unfolding message-answer
-message-numbered z b = go (leb (lengthOf b) (length b)) (eqb (lengthOf b) (length b)) (goodMessage z b)
+-- and the number that it answers
+pub one-number : (b : Bool) (r q : Refusal) → Refuses (check b r ∷ []) q → numberOf q ≡ numberOf r
+one-number b r q (here e) = refl
+
+pub one-passes : (b : Bool) (r : Refusal) → All-passed (check b r ∷ []) ↔ (b ≡ true)
+one-passes b r = (last, λ e. pass e none)
   where
-    go : (u v w : Bool) → Numbered 7 8 (check u (TruncatedMessage (length b)) (check v (TruncatedMessage (lengthOf b)) (check w BadMessage C.Accepted)))
-    go false v w = omega arith
-    go true false w = omega arith
-    go true true false = omega arith
-    go true true true = tt
+    last : All-passed (check b r ∷ []) → b ≡ true
+    last (pass e none) = e
 
--- ---- answers apart
+-- a test that decides a claim fails where the claim does
+pub decided : {b : Bool} {P : Type 0} → (b ≡ true) ↔ P → (b ≡ false) ↔ (P → ⊥)
+decided {b = true} f = (λ e. absurd (true≢false e), λ n. absurd (n (f .0 refl)))
+decided {b = false} f = (λ e p. true≢false (sym (f .1 p)), λ n. refl)
 
--- an answer's number: a refusal's, and 0 or 11 for the others
-abbrev number : Answer → ℕ
-number Done = 0
-number (Received n) = 11
-number (Refused r) = numberOf r
+pub back : {A B : Type 0} → A ↔ B → B ↔ A
+back f = (f .1, f .0)
 
-apart : {X : Type 0} (a b : Answer) → a ≡ b → (number a ≡ number b → ⊥) → X
-apart a b e n = absurd (n (ap number e))
+pub same : {A : Type 0} → A ↔ A
+same = (λ a. a, λ a. a)
 
-same-refusal : (r q : Refusal) → Refused r ≡ Refused q → C.Refused r ≡ C.Refused q
-same-refusal r q e = cc
+pub both-ways : {A B X Y : Type 0} → A ↔ B → X ↔ Y → (A × X) ↔ (B × Y)
+both-ways f g = (λ q. (f .0 (q .0), g .0 (q .1)), λ q. (f .1 (q .0), g .1 (q .1)))
 
-same-answer : (r q : Refusal) → C.Refused r ≡ C.Refused q → Refused r ≡ Refused q
-same-answer r q e = cc
+-- a call's answer is that of its checks
+pub reply-unless : (a : Checked) (x : State) (o : Outcome) → reply (o .answer) ≡ C.Accepted → reply (unless a x o .answer) ≡ a
+reply-unless C.Accepted x o e = e
+reply-unless (C.Refused r) x o e = refl
 
-pub not-accepted : (r : Refusal) → C.Refused r ≡ C.Accepted → ⊥
-not-accepted r e = let z : _≡_ {A = ℕ} 0 1 = cc in omega arith
+-- and a refused call leaves the state
+pub unwritten : (a : Checked) (x : State) (o : Outcome) → reply (o .answer) ≡ C.Accepted → (r : Refusal) → unless a x o .answer ≡ Refused r → unless a x o .state ≡ x
+unwritten C.Accepted x o e r f = absurd (not-accepted r (ap reply (sym f) ∙ e))
+unwritten (C.Refused q) x o e r f = refl
 
--- what the policy's reader answered is what the call answers, where the reader refused
-refused-causes : (s : List ℕ) → Policy-reader-causes s → (r : Refusal) → policy-answer s ≡ C.Refused r → Policy-causes s (Refused r)
-refused-causes s k r e = record {
-  one = λ at. (λ f. k .one at .0 (e ∙ same-refusal r _ f), λ c. same-answer r _ (sym e ∙ k .one at .1 c));
-  two = λ at. (λ f. k .two at .0 (e ∙ same-refusal r _ f), λ c. same-answer r _ (sym e ∙ k .two at .1 c));
-  three = λ at. (λ f. k .three at .0 (e ∙ same-refusal r _ f), λ c. same-answer r _ (sym e ∙ k .three at .1 c));
-  four = (λ f. k .four .0 (e ∙ same-refusal r _ f), λ c. same-answer r _ (sym e ∙ k .four .1 c));
-}
+-- ---- the policy's part
 
--- where it did not, none of 1 to 4 is answered
-accepted-causes : (s : List ℕ) → Policy-reader-causes s → policy-answer s ≡ C.Accepted → (a : Answer) → (1 ≤ number a → number a ≤ 4 → ⊥) → Policy-causes s a
-accepted-causes s k e a n = record {
-  one = λ at. (λ f. absurd (n (omega (arith, ap number f)) (omega (arith, ap number f))), λ c. absurd (not-accepted _ (sym (k .one at .1 c) ∙ e)));
-  two = λ at. (λ f. absurd (n (omega (arith, ap number f)) (omega (arith, ap number f))), λ c. absurd (not-accepted _ (sym (k .two at .1 c) ∙ e)));
-  three = λ at. (λ f. absurd (n (omega (arith, ap number f)) (omega (arith, ap number f))), λ c. absurd (not-accepted _ (sym (k .three at .1 c) ∙ e)));
-  four = (λ f. absurd (n (omega (arith, ap number f)) (omega (arith, ap number f))), λ c. absurd (not-accepted _ (sym (k .four .1 c) ∙ e)));
-}
+module _ (s : List ℕ) (k : Policy-reader-causes s) where
+  pub passed-policy : All-passed (policy-checks s) ↔ Policy-passed s
+  unfolding policy-answer
+  passed-policy = via (back (passing-law (policy-checks s))) (k .accepted)
 
-module _ (s : List ℕ) (x : State) (k : Policy-reader-causes s) where
-  -- ---- an opening
+  -- in a list that refuses with 1 to 4 just where the policy's checks do
+  pub policy-part : (cs : List Check) → ((r : Refusal) → numberOf r ≤ 4 → Refuses cs r ↔ Refuses (policy-checks s) r) → Policy-causes s (first-failed cs)
+  unfolding policy-answer
+  policy-part cs f = record {
+    one = λ at. via (number-law cs 1 at) (at-place (via (f (TruncatedPolicy at) (omega arith)) (via (back (refusal-law (policy-checks s) (TruncatedPolicy at))) (k .one at))));
+    two = λ at. via (number-law cs 2 at) (at-place (via (f (BadHeading at) (omega arith)) (via (back (refusal-law (policy-checks s) (BadHeading at))) (k .two at))));
+    three = λ at. via (number-law cs 3 at) (at-place (via (f (BadSubformula at) (omega arith)) (via (back (refusal-law (policy-checks s) (BadSubformula at))) (k .three at))));
+    four = λ at. via (number-law cs 4 at) (at-zero-two (via (f RuleCount (omega arith)) (via (back (refusal-law (policy-checks s) RuleCount)) (k .four))));
+  }
 
-  pub opening-causes : Opening-causes s x (open-state s x)
-  unfolding open-state
-  opening-causes = go (policy-answer s) refl (sized (policyOf s) x) refl (policy-numbered s)
-    where
-      out : Checked → Bool → Outcome
-      out a v = afterwards a x (guard v BufferSize x (record { answer = Done; state = opened (policyOf s) }))
+  -- a refusal with another number comes after them
+  pub after-policy : (ys : List Check) (r : Refusal) → (numberOf r ≤ 4 → ⊥) → Refuses (policy-checks s ++ ys) r ↔ (Policy-passed s × Refuses ys r)
+  after-policy ys r n = via (refused-after (policy-checks s) ys r (λ q. n (policy-refuses s r q .1))) (both-ways passed-policy same)
 
-      go : (a : Checked) → policy-answer s ≡ a → (v : Bool) → sized (policyOf s) x ≡ v → Numbered 1 4 a → Opening-causes s x (out a v)
-      go (C.Refused r) e v f n = record {
-        policy = refused-causes s k r e;
-        five = (λ q. apart (Refused r) (Refused BufferSize) q (omega (arith, n)), λ q. absurd (not-accepted r (sym e ∙ k .accepted .1 (q .0))));
-        done = (λ q. apart (Refused r) Done q (omega (arith, n)), λ q. absurd (not-accepted r (sym e ∙ k .accepted .1 (q .0))));
-        unwritten = λ q h. refl;
-      }
-      go C.Accepted e true f n = record {
-        policy = accepted-causes s k e Done (omega arith);
-        five = (λ q. apart Done (Refused BufferSize) q (omega arith), λ q. absurd (q .1 (sized-law (policyOf s) x .0 f)));
-        done = (λ q. (k .accepted .0 e, sized-law (policyOf s) x .0 f), λ q. refl);
-        unwritten = λ r q. apart Done (Refused r) q (λ z. positive r (sym z));
-      }
-        where
-          positive : (r : Refusal) → numberOf r ≡ 0 → ⊥
-          positive (TruncatedPolicy at) z = omega arith
-          positive (BadHeading at) z = omega arith
-          positive (BadSubformula at) z = omega arith
-          positive RuleCount z = omega arith
-          positive BufferSize z = omega arith
-          positive CorruptKnowledge z = omega arith
-          positive (TruncatedMessage at) z = omega arith
-          positive BadMessage z = omega arith
-          positive Conflict z = omega arith
-          positive OutOfRange z = omega arith
-      go C.Accepted e false f n =
-          let off : Sized (policyOf s) x → ⊥ = λ z. true≢false (sym (sized-law (policyOf s) x .1 z) ∙ f) in
-          record {
-            policy = accepted-causes s k e (Refused BufferSize) (omega arith);
-            five = (λ q. (k .accepted .0 e, off), λ q. refl);
-            done = (λ q. apart (Refused BufferSize) Done q (omega arith), λ q. absurd (off (q .1)));
-            unwritten = λ r q. refl;
-          }
+  module _ (x : State) where
+    abbrev fits : Bool
+    fits = sized (policyOf s) x
 
-  -- ---- a take
+    passed-sizes : All-passed (opening-checks s x) ↔ (Policy-passed s × Sized (policyOf s) x)
+    passed-sizes =
+        via (passed-parts (policy-checks s) (check fits BufferSize ∷ []), λ q. passed-both (policy-checks s) (check fits BufferSize ∷ []) (q .0) (q .1))
+        (both-ways passed-policy (via (one-passes fits BufferSize) (sized-law (policyOf s) x)))
 
-  module _ (b : List ℕ) (km : Message-reader-causes (sizesOf s) b) (limits : policy-answer s ≡ C.Accepted → Limits (sizesOf s))
-      (ranged : policy-answer s ≡ C.Accepted → Well-formed (sizesOf s) b → Fits (sizesOf s) (meaningOf b)) where
-    -- a take that is received
-    above : (r : Refusal) → numberOf r ≡ 11 → ⊥
-    above (TruncatedPolicy at) z = omega arith
-    above (BadHeading at) z = omega arith
-    above (BadSubformula at) z = omega arith
-    above RuleCount z = omega arith
-    above BufferSize z = omega arith
-    above CorruptKnowledge z = omega arith
-    above (TruncatedMessage at) z = omega arith
-    above BadMessage z = omega arith
-    above Conflict z = omega arith
-    above OutOfRange z = omega arith
-
-    module _ (e : policy-answer s ≡ C.Accepted) (z : Sized (policyOf s) x) (clean : Sound (sizesOf s) (x .known)) where
-      passed : Passed s x
-      passed = record { policy = k .accepted .0 e; sized = z; sound = clean }
-
-      -- a well-formed message
-      at-settle : Well-formed (sizesOf s) b → (v : Bool) → admits (sizesOf s) (x .known) (meaningOf b) ≡ v → Take-causes s x b (settle (policyOf s) x (meaningOf b) v)
-      at-settle w v = go v
-        where
-          law : (admits (sizesOf s) (x .known) (meaningOf b) ≡ true) ↔ Some-trace (sizesOf s) (x .known) (meaningOf b)
-          law = admits-law (sizesOf s) (limits e) (x .known) (meaningOf b) (long-of (policyOf s) x z) (ranged e w) clean
-
-          go : (v : Bool) → admits (sizesOf s) (x .known) (meaningOf b) ≡ v → Take-causes s x b (settle (policyOf s) x (meaningOf b) v)
-          go true g = record {
-            policy = accepted-causes s k e (Received _) (omega arith);
-            five = (λ q. apart (Received _) (Refused BufferSize) q (omega arith), λ q. absurd (q .1 z));
-            six = (λ q. apart (Received _) (Refused CorruptKnowledge) q (omega arith), λ q. absurd (q .2 clean));
-            seven = λ at. (λ q. apart (Received _) (Refused (TruncatedMessage at)) q (omega arith), λ q. absurd (not-accepted _ (sym (km .seven at .1 (q .1)) ∙ w)));
-            eight = (λ q. apart (Received _) (Refused BadMessage) q (omega arith), λ q. absurd (not-accepted _ (sym (km .eight .1 (q .1, q .2)) ∙ w)));
-            nine = (λ q. apart (Received _) (Refused Conflict) q (omega arith), λ q. absurd (q .2 (law .0 g)));
-            taken = (λ u. (passed, w, law .0 g), λ q. tt);
-            unwritten = λ r q. apart (Received _) (Refused r) q (λ h. above r (sym h));
-          }
-          go false g =
-              let off : Some-trace (sizesOf s) (x .known) (meaningOf b) → ⊥ = λ t. true≢false (sym (law .1 t) ∙ g) in
-              record {
-                policy = accepted-causes s k e (Refused Conflict) (omega arith);
-                five = (λ q. apart (Refused Conflict) (Refused BufferSize) q (omega arith), λ q. absurd (q .1 z));
-                six = (λ q. apart (Refused Conflict) (Refused CorruptKnowledge) q (omega arith), λ q. absurd (q .2 clean));
-                seven = λ at. (λ q. apart (Refused Conflict) (Refused (TruncatedMessage at)) q (omega arith), λ q. absurd (not-accepted _ (sym (km .seven at .1 (q .1)) ∙ w)));
-                eight = (λ q. apart (Refused Conflict) (Refused BadMessage) q (omega arith), λ q. absurd (not-accepted _ (sym (km .eight .1 (q .1, q .2)) ∙ w)));
-                nine = (λ q. (passed, w, off), λ q. refl);
-                taken = (λ u. absurd u, λ q. absurd (off (q .2)));
-                unwritten = λ r q. refl;
-              }
-
-      -- a message that its reader refuses
-      at-refused : (r : Refusal) → message-answer (sizesOf s) b ≡ C.Refused r → (7 ≤ numberOf r) × (numberOf r ≤ 8) → Take-causes s x b (refused x r)
-      at-refused r f n =
-          let ill : Well-formed (sizesOf s) b → ⊥ = λ w. not-accepted r (sym f ∙ w) in
-          record {
-            policy = accepted-causes s k e (Refused r) (omega (arith, n));
-            five = (λ q. apart (Refused r) (Refused BufferSize) q (omega (arith, n)), λ q. absurd (q .1 z));
-            six = (λ q. apart (Refused r) (Refused CorruptKnowledge) q (omega (arith, n)), λ q. absurd (q .2 clean));
-            seven = λ at. (λ q. (passed, km .seven at .0 (f ∙ same-refusal r _ q)), λ q. same-answer r _ (sym f ∙ km .seven at .1 (q .1)));
-            eight = (λ q. let h = km .eight .0 (f ∙ same-refusal r _ q) in (passed, h .0, h .1), λ q. same-answer r _ (sym f ∙ km .eight .1 (q .1, q .2)));
-            nine = (λ q. apart (Refused r) (Refused Conflict) q (omega (arith, n)), λ q. absurd (ill (q .1)));
-            taken = (λ u. absurd u, λ q. absurd (ill (q .1)));
-            unwritten = λ q h. refl;
-          }
-
-    pub take-causes : Take-causes s x b (receive s x b)
-    unfolding receive
-    take-causes =
-        go (policy-answer s) refl (sized (policyOf s) x) refl (sound (sizesOf s) (x .known)) refl (message-answer (sizesOf s) b) refl
-        (policy-numbered s) (message-numbered (sizesOf s) b)
+    -- the checks of the sizes: 1 to 5
+    sizes-number : (r : Refusal) → Refuses (opening-checks s x) r → (1 ≤ numberOf r) × (numberOf r ≤ 5)
+    sizes-number r q = go (refused-where (policy-checks s) (check fits BufferSize ∷ []) r q)
       where
-        out : Checked → Bool → Bool → Checked → Outcome
-        out a v u d =
-            afterwards a x (guard v BufferSize x (guard u CorruptKnowledge x
-            (afterwards d x (settle (policyOf s) x (meaningOf b) (admits (sizesOf s) (x .known) (meaningOf b))))))
+        go : Refuses (policy-checks s) r ⊎ (All-passed (policy-checks s) × Refuses (check fits BufferSize ∷ []) r) → (1 ≤ numberOf r) × (numberOf r ≤ 5)
+        go (inl h) = omega (arith, policy-refuses s r h)
+        go (inr h) = omega (arith, one-number fits BufferSize r (h .1))
 
-        go : (a : Checked) → policy-answer s ≡ a → (v : Bool) → sized (policyOf s) x ≡ v → (u : Bool) → sound (sizesOf s) (x .known) ≡ u
-            → (d : Checked) → message-answer (sizesOf s) b ≡ d → Numbered 1 4 a → Numbered 7 8 d → Take-causes s x b (out a v u d)
-        go (C.Refused r) e v f u g d h n m =
-            let off : Policy-passed s → ⊥ = λ q. not-accepted r (sym e ∙ k .accepted .1 q) in
-            record {
-              policy = refused-causes s k r e;
-              five = (λ q. apart (Refused r) (Refused BufferSize) q (omega (arith, n)), λ q. absurd (off (q .0)));
-              six = (λ q. apart (Refused r) (Refused CorruptKnowledge) q (omega (arith, n)), λ q. absurd (off (q .0)));
-              seven = λ at. (λ q. apart (Refused r) (Refused (TruncatedMessage at)) q (omega (arith, n)), λ q. absurd (off (q .0 .policy)));
-              eight = (λ q. apart (Refused r) (Refused BadMessage) q (omega (arith, n)), λ q. absurd (off (q .0 .policy)));
-              nine = (λ q. apart (Refused r) (Refused Conflict) q (omega (arith, n)), λ q. absurd (off (q .0 .policy)));
-              taken = (λ t. absurd t, λ q. absurd (off (q .0 .policy)));
-              unwritten = λ q t. refl;
-            }
-        go C.Accepted e false f u g d h n m =
-            let off : Sized (policyOf s) x → ⊥ = λ z. true≢false (sym (sized-law (policyOf s) x .1 z) ∙ f) in
-            record {
-              policy = accepted-causes s k e (Refused BufferSize) (omega arith);
-              five = (λ q. (k .accepted .0 e, off), λ q. refl);
-              six = (λ q. apart (Refused BufferSize) (Refused CorruptKnowledge) q (omega arith), λ q. absurd (off (q .1)));
-              seven = λ at. (λ q. apart (Refused BufferSize) (Refused (TruncatedMessage at)) q (omega arith), λ q. absurd (off (q .0 .sized)));
-              eight = (λ q. apart (Refused BufferSize) (Refused BadMessage) q (omega arith), λ q. absurd (off (q .0 .sized)));
-              nine = (λ q. apart (Refused BufferSize) (Refused Conflict) q (omega arith), λ q. absurd (off (q .0 .sized)));
-              taken = (λ t. absurd t, λ q. absurd (off (q .0 .sized)));
-              unwritten = λ q t. refl;
-            }
-        go C.Accepted e true f false g d h n m =
-            let z = sized-law (policyOf s) x .0 f in
-            let off : Sound (sizesOf s) (x .known) → ⊥ = λ c. true≢false (sym (sound-law (sizesOf s) (x .known) .1 c) ∙ g) in
-            record {
-              policy = accepted-causes s k e (Refused CorruptKnowledge) (omega arith);
-              five = (λ q. apart (Refused CorruptKnowledge) (Refused BufferSize) q (omega arith), λ q. absurd (q .1 z));
-              six = (λ q. (k .accepted .0 e, z, off), λ q. refl);
-              seven = λ at. (λ q. apart (Refused CorruptKnowledge) (Refused (TruncatedMessage at)) q (omega arith), λ q. absurd (off (q .0 .sound)));
-              eight = (λ q. apart (Refused CorruptKnowledge) (Refused BadMessage) q (omega arith), λ q. absurd (off (q .0 .sound)));
-              nine = (λ q. apart (Refused CorruptKnowledge) (Refused Conflict) q (omega arith), λ q. absurd (off (q .0 .sound)));
-              taken = (λ t. absurd t, λ q. absurd (off (q .0 .sound)));
-              unwritten = λ q t. refl;
-            }
-        go C.Accepted e true f true g C.Accepted h n m = at-settle e (sized-law (policyOf s) x .0 f) (sound-law (sizesOf s) (x .known) .0 g) h _ refl
-        go C.Accepted e true f true g (C.Refused r) h n m = at-refused e (sized-law (policyOf s) x .0 f) (sound-law (sizesOf s) (x .known) .0 g) r h m
+    sizes-policy : (r : Refusal) → numberOf r ≤ 4 → Refuses (opening-checks s x) r ↔ Refuses (policy-checks s) r
+    sizes-policy r l = refused-before (policy-checks s) (check fits BufferSize ∷ []) r (λ q. omega (arith, one-number fits BufferSize r q))
+
+    misfit : Refuses (opening-checks s x) BufferSize ↔ (Policy-passed s × (Sized (policyOf s) x → ⊥))
+    misfit = via (after-policy (check fits BufferSize ∷ []) BufferSize (omega arith)) (both-ways same (via (one-fails fits BufferSize) (decided (sized-law (policyOf s) x))))
+
+    -- ---- an opening
+
+    done-law : (a : Checked) → (unless a x (record { answer = Done; state = opened (policyOf s) }) .answer ≡ Done) ↔ (a ≡ C.Accepted)
+    done-law C.Accepted = (λ e. refl, λ e. refl)
+    done-law (C.Refused r) = (λ e. ap reply e, λ e. absurd (not-accepted r e))
+
+    pub opening-causes : Opening-causes s x (open-state s x)
+    unfolding open-state
+    opening-causes =
+        let cs = opening-checks s x in
+        let e = reply-unless (first-failed cs) x (record { answer = Done; state = opened (policyOf s) }) refl in
+        record {
+          policy = rw e (policy-part cs sizes-policy);
+          five = λ at. rw e (via (number-law cs 5 at) (at-zero-two misfit));
+          no-other = λ n at. rw e (λ w. in-range n at (number-law cs n at .0 w));
+          done = via (done-law (first-failed cs)) (via (passing-law cs) passed-sizes);
+          unwritten = unwritten (first-failed cs) x (record { answer = Done; state = opened (policyOf s) }) refl;
+        }
+      where
+        in-range : (n at : ℕ) → Refuses (opening-checks s x) (refusal-of n at) × (numberOf (refusal-of n at) ≡ n) × (placeOf (refusal-of n at) ≡ at) → (1 ≤ n) × (n ≤ 5)
+        in-range n at q = omega (arith, sizes-number (refusal-of n at) (q .0), q .1)
+
+    -- ---- the record's checks
+
+    abbrev clean : Bool
+    clean = sound (sizesOf s) (x .known)
+
+    abbrev firsts : List Check
+    firsts = record-checks s (x .known) (length (x .valuation)) (length (x .verdicts))
+
+    pub passed-record : All-passed firsts ↔ Passed s x
+    passed-record =
+        via (passed-parts (opening-checks s x) (check clean CorruptKnowledge ∷ []), λ q. passed-both (opening-checks s x) (check clean CorruptKnowledge ∷ []) (q .0) (q .1))
+        (via (both-ways passed-sizes (via (one-passes clean CorruptKnowledge) (sound-law (sizesOf s) (x .known))))
+        (λ q. record { policy = q .0 .0; sized = q .0 .1; sound = q .1 }, λ q. ((q .policy, q .sized), q .sound)))
+
+    record-number : (r : Refusal) → Refuses firsts r → (1 ≤ numberOf r) × (numberOf r ≤ 6)
+    record-number r q = go (refused-where (opening-checks s x) (check clean CorruptKnowledge ∷ []) r q)
+      where
+        go : Refuses (opening-checks s x) r ⊎ (All-passed (opening-checks s x) × Refuses (check clean CorruptKnowledge ∷ []) r) → (1 ≤ numberOf r) × (numberOf r ≤ 6)
+        go (inl h) = omega (arith, sizes-number r h)
+        go (inr h) = omega (arith, one-number clean CorruptKnowledge r (h .1))
+
+    record-sizes : (r : Refusal) → numberOf r ≤ 5 → Refuses firsts r ↔ Refuses (opening-checks s x) r
+    record-sizes r l = refused-before (opening-checks s x) (check clean CorruptKnowledge ∷ []) r (λ q. omega (arith, one-number clean CorruptKnowledge r q))
+
+    corrupt : Refuses firsts CorruptKnowledge ↔ ((Policy-passed s × Sized (policyOf s) x) × (Sound (sizesOf s) (x .known) → ⊥))
+    corrupt =
+        via (refused-after (opening-checks s x) (check clean CorruptKnowledge ∷ []) CorruptKnowledge (λ q. omega (arith, sizes-number CorruptKnowledge q)))
+        (both-ways passed-sizes (via (one-fails clean CorruptKnowledge) (decided (sound-law (sizesOf s) (x .known)))))
+
+    -- ---- a take
+
+    module _ (b : List ℕ) (km : Message-reader-causes (sizesOf s) b) (limits : policy-answer s ≡ C.Accepted → Limits (sizesOf s))
+        (ranged : policy-answer s ≡ C.Accepted → Well-formed (sizesOf s) b → Fits (sizesOf s) (meaningOf b)) where
+      abbrev free : Bool
+      free = admits (sizesOf s) (x .known) (meaningOf b)
+
+      abbrev slip : List Check
+      slip = slip-checks (policyOf s) x b
+
+      -- 7 to 9
+      slip-number : (r : Refusal) → Refuses slip r → (7 ≤ numberOf r) × (numberOf r ≤ 9)
+      slip-number r (here e) = omega arith
+      slip-number r (there p (here e)) = omega arith
+      slip-number r (there p (there q (here e))) = omega arith
+      slip-number r (there p (there q (there u (here e)))) = omega arith
+
+      message-number : (r : Refusal) → Refuses (message-checks (sizesOf s) b) r → numberOf r ≤ 8
+      message-number r (here e) = omega arith
+      message-number r (there p (here e)) = omega arith
+      message-number r (there p (there q (here e))) = omega arith
+
+      early : (r : Refusal) → numberOf r ≤ 6 → Refuses (take-checks s x b) r ↔ Refuses firsts r
+      early r l = refused-before firsts slip r (λ q. omega (arith, slip-number r q))
+
+      late : (r : Refusal) → (numberOf r ≤ 6 → ⊥) → Refuses (take-checks s x b) r ↔ (Passed s x × Refuses slip r)
+      late r n = via (refused-after firsts slip r (λ q. n (record-number r q .1))) (both-ways passed-record same)
+
+      -- the message's own checks
+      in-message : (r : Refusal) → numberOf r ≤ 8 → Refuses slip r ↔ (message-answer (sizesOf s) b ≡ C.Refused r)
+      unfolding message-answer
+      in-message r l =
+          via (refused-before (message-checks (sizesOf s) b) (check free Conflict ∷ []) r (λ q. omega (arith, one-number free Conflict r q)))
+          (back (refusal-law (message-checks (sizesOf s) b) r))
+
+      well-formed : All-passed (message-checks (sizesOf s) b) ↔ Well-formed (sizesOf s) b
+      unfolding message-answer
+      well-formed = back (passing-law (message-checks (sizesOf s) b))
+
+      -- 9 decides whether some trace agrees
+      agreed : Passed s x → Well-formed (sizesOf s) b → (free ≡ true) ↔ Some-trace (sizesOf s) (x .known) (meaningOf b)
+      agreed p w =
+          let e = k .accepted .1 (p .policy) in
+          admits-law (sizesOf s) (limits e) (x .known) (meaningOf b) (long-of (policyOf s) x (p .sized)) (ranged e w) (p .sound)
+
+      conflict : (Passed s x × Refuses slip Conflict) ↔ (Passed s x × Well-formed (sizesOf s) b × (Some-trace (sizesOf s) (x .known) (meaningOf b) → ⊥))
+      conflict = (there-is, back-to)
+        where
+          law : Refuses slip Conflict ↔ (Well-formed (sizesOf s) b × (free ≡ false))
+          law =
+              via (refused-after (message-checks (sizesOf s) b) (check free Conflict ∷ []) Conflict (λ q. omega (arith, message-number Conflict q)))
+              (both-ways well-formed (one-fails free Conflict))
+
+          there-is : Passed s x × Refuses slip Conflict → Passed s x × Well-formed (sizesOf s) b × (Some-trace (sizesOf s) (x .known) (meaningOf b) → ⊥)
+          there-is q = let r = law .0 (q .1) in (q .0, r .0, decided (agreed (q .0) (r .0)) .0 (r .1))
+
+          back-to : Passed s x × Well-formed (sizesOf s) b × (Some-trace (sizesOf s) (x .known) (meaningOf b) → ⊥) → Passed s x × Refuses slip Conflict
+          back-to q = (q .0, law .1 (q .1, decided (agreed (q .0) (q .1)) .1 (q .2)))
+
+      taken-law : (a : Checked) → Taken (unless a x (settled (policyOf s) x (meaningOf b)) .answer) ↔ (a ≡ C.Accepted)
+      taken-law C.Accepted = (λ u. refl, λ e. tt)
+      taken-law (C.Refused r) = (λ u. absurd u, λ e. absurd (not-accepted r e))
+
+      passed-all : All-passed (take-checks s x b) ↔ (Passed s x × Well-formed (sizesOf s) b × Some-trace (sizesOf s) (x .known) (meaningOf b))
+      passed-all = (there-is, back-to)
+        where
+          law : All-passed (take-checks s x b) ↔ (Passed s x × (Well-formed (sizesOf s) b × (free ≡ true)))
+          law =
+              via (passed-parts firsts slip, λ q. passed-both firsts slip (q .0) (q .1))
+              (both-ways passed-record
+              (via (passed-parts (message-checks (sizesOf s) b) (check free Conflict ∷ []), λ q. passed-both (message-checks (sizesOf s) b) (check free Conflict ∷ []) (q .0) (q .1))
+              (both-ways well-formed (one-passes free Conflict))))
+
+          there-is : All-passed (take-checks s x b) → Passed s x × Well-formed (sizesOf s) b × Some-trace (sizesOf s) (x .known) (meaningOf b)
+          there-is q = let r = law .0 q in (r .0, r .1 .0, agreed (r .0) (r .1 .0) .0 (r .1 .1))
+
+          back-to : Passed s x × Well-formed (sizesOf s) b × Some-trace (sizesOf s) (x .known) (meaningOf b) → All-passed (take-checks s x b)
+          back-to q = law .1 (q .0, (q .1, agreed (q .0) (q .1) .1 (q .2)))
+
+      pub take-causes : Take-causes s x b (receive s x b)
+      unfolding receive
+      take-causes =
+          let cs = take-checks s x b in
+          let e = reply-unless (first-failed cs) x (settled (policyOf s) x (meaningOf b)) refl in
+          record {
+            policy = rw e (policy-part cs (λ r l. via (early r (omega arith)) (via (record-sizes r (omega arith)) (sizes-policy r l))));
+            five = λ at. rw e (via (number-law cs 5 at) (at-zero-two (via (early BufferSize (omega arith)) (via (record-sizes BufferSize (omega arith)) misfit))));
+            six = λ at. rw e (via (number-law cs 6 at) (at-zero-three (via (early CorruptKnowledge (omega arith)) (via corrupt (λ q. (q .0 .0, q .0 .1, q .1), λ q. ((q .0, q .1), q .2))))));
+            seven = λ at. rw e (via (number-law cs 7 at) (at-place (via (late (TruncatedMessage at) (omega arith)) (both-ways same (via (in-message (TruncatedMessage at) (omega arith)) (km .seven at))))));
+            eight = λ at. rw e (via (number-law cs 8 at) (at-zero-three (via (late BadMessage (omega arith)) (via (both-ways same (via (in-message BadMessage (omega arith)) (km .eight))) (λ q. (q .0, q .1 .0, q .1 .1), λ q. (q .0, (q .1, q .2)))))));
+            nine = λ at. rw e (via (number-law cs 9 at) (at-zero-three (via (late Conflict (omega arith)) conflict)));
+            no-other = λ n at. rw e (λ w. in-range n at (number-law cs n at .0 w));
+            taken = via (taken-law (first-failed cs)) (via (passing-law cs) passed-all);
+            unwritten = unwritten (first-failed cs) x (settled (policyOf s) x (meaningOf b)) refl;
+          }
+        where
+          either : (r : Refusal) → Refuses firsts r ⊎ (All-passed firsts × Refuses slip r) → (1 ≤ numberOf r) × (numberOf r ≤ 9)
+          either r (inl h) = omega (arith, record-number r h)
+          either r (inr h) = omega (arith, slip-number r (h .1))
+
+          in-range : (n at : ℕ) → Refuses (take-checks s x b) (refusal-of n at) × (numberOf (refusal-of n at) ≡ n) × (placeOf (refusal-of n at) ≡ at) → (1 ≤ n) × (n ≤ 9)
+          in-range n at q = omega (arith, either (refusal-of n at) (refused-where firsts slip (refusal-of n at) (q .0)), q .1)

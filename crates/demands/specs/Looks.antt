@@ -1,106 +1,144 @@
--- Each answer of a look has its own cause: the policy's reader answers 1 to 4 only, then one test each decides 5 and 10.
-use Prim.Native.Nat.{ℕ, _+_, _*_, _<_}
+-- Each answer of a look has its own cause: the policy's checks answer 1 to 4 only, then one check each gives 5 and 10.
+use Prim.Native.Nat.{ℕ, zero, suc, _+_, _*_, _≤_, _<_}
 use native.Mathlib.Omega.{arith}
 use mathlib.Core.Path.{_≡_, refl, sym, ap, _∙_}
-use mathlib.Core.Bool.{Bool, true, false, cond, _&&_, true≢false}
-use mathlib.Core.List.{List}
+use mathlib.Core.Bool.{Bool, true, false, _&&_}
+use mathlib.Core.Logic.{_↔_, _≢_, _⊎_, inl, inr}
+use mathlib.Core.List.{List, [], _∷_, _++_}
 use lib.Dec.{eqb, ltb}
 use lib.ListN.{getD, length}
 use borrow.Author.Tests.{eqb-true, eq-eqb, ltb-true, lt-ltb}
 use Rattle.refusal.specs.declared.Refusal.{Refusal}
 use Rattle.refusal.specs.declared.Refusal.the-variants.{BufferSize, OutOfRange}
-use Rattle.refusal.specs.Numbers.{numberOf}
-use Rattle.mtl.specs.Folds.{both, pair}
 use Rattle.refusal.specs.declared.Answer.{Answer as Checked}
 use Rattle.refusal.specs.declared.Answer.the-variants as C
-use Rattle.policy.specs.Format.{answerOf as policy-answer, policyOf}
+use Rattle.refusal.specs.Numbers.{numberOf, placeOf, refusal-of}
+use Rattle.refusal.specs.Checks.{Check, check, first-failed, Passed as All-passed, Refuses, here, there}
+use Rattle.refusal.specs.Laws.{passing-law, refused-before, refused-after, refused-where, passed-both, passed-parts, number-law, not-accepted}
+use Rattle.mtl.specs.Folds.{both, pair}
+use Rattle.policy.specs.Format.{policy-checks, policyOf}
 use Rattle.policy.specs.Proper.{Causes as Policy-reader-causes}
+use Rattle.policy.specs.Causes.{policy-refuses}
 use Rattle.monitor.specs.declared.Verdict.{Verdict}
+use Rattle.monitor.specs.declared.Verdict.the-variants.{Unknown, Satisfied, Violated}
 use Rattle.monitor.specs.declared.Look.{Look}
 use Rattle.monitor.specs.declared.Look.the-variants as L
-use Rattle.monitor.specs.Lookup.{verdictOf, look-at, after-policy, lookupOf}
-use Rattle.monitor.specs.Demands.{sizesOf, Policy-passed, Look-causes}
-use Rattle.demands.specs.Causes.{Numbered, policy-numbered, not-accepted}
+use Rattle.monitor.specs.Lookup.{verdict-code, verdictOf, show-unless, sheet-checks, look-checks, lookupOf}
+use Rattle.monitor.specs.Demands.{sizesOf, Policy-passed, look-reply, On-sheet, code, Look-causes}
+use Rattle.demands.specs.Causes.{via, back, same, both-ways, at-zero-two, at-zero-three, one-fails, one-passes, one-number, decided, passed-policy, policy-part, after-policy}
 
--- an answer's number: a refusal's, and 0 for a verdict
-abbrev number : Look → ℕ
-number (L.Shows v) = 0
-number (L.Refused r) = numberOf r
+-- ---- what a code reads as
 
-apart : {X : Type 0} (a b : Look) → a ≡ b → (number a ≡ number b → ⊥) → X
-apart a b e n = absurd (n (ap number e))
-
-same-refusal : (r q : Refusal) → L.Refused r ≡ L.Refused q → C.Refused r ≡ C.Refused q
-same-refusal r q e = cc
-
-same-look : (r q : Refusal) → C.Refused r ≡ C.Refused q → L.Refused r ≡ L.Refused q
-same-look r q e = cc
-
-same-verdict : (v w : Verdict) → L.Shows v ≡ L.Shows w → w ≡ v
+same-verdict : (v w : Verdict) → L.Shows v ≡ L.Shows w → v ≡ w
 same-verdict v w e = cc
 
-not-shown : (r : Refusal) (v : Verdict) → L.Refused r ≡ L.Shows v → ⊥
-not-shown r v e = let z : _≡_ {A = ℕ} 0 1 = cc in omega arith
+code-of-kept : (n : ℕ) → (verdictOf n ≡ Satisfied) ↔ (n ≡ 1)
+code-of-kept zero = (λ e. let z : _≡_ {A = ℕ} 0 1 = ap verdict-code e in absurd (omega arith), λ e. absurd (omega arith))
+code-of-kept (suc zero) = (λ e. refl, λ e. refl)
+code-of-kept (suc (suc zero)) = (λ e. let z : _≡_ {A = ℕ} 2 1 = ap verdict-code e in absurd (omega arith), λ e. absurd (omega arith))
+code-of-kept (suc (suc (suc n))) = (λ e. let z : _≡_ {A = ℕ} 0 1 = ap verdict-code e in absurd (omega arith), λ e. absurd (omega arith))
+
+code-of-broken : (n : ℕ) → (verdictOf n ≡ Violated) ↔ (n ≡ 2)
+code-of-broken zero = (λ e. let z : _≡_ {A = ℕ} 0 2 = ap verdict-code e in absurd (omega arith), λ e. absurd (omega arith))
+code-of-broken (suc zero) = (λ e. let z : _≡_ {A = ℕ} 1 2 = ap verdict-code e in absurd (omega arith), λ e. absurd (omega arith))
+code-of-broken (suc (suc zero)) = (λ e. refl, λ e. refl)
+code-of-broken (suc (suc (suc n))) = (λ e. let z : _≡_ {A = ℕ} 0 2 = ap verdict-code e in absurd (omega arith), λ e. absurd (omega arith))
+
+code-of-blank : (n : ℕ) → (verdictOf n ≡ Unknown) ↔ ((n ≢ 1) × (n ≢ 2))
+code-of-blank zero = (λ e. (λ q. omega arith, λ q. omega arith), λ e. refl)
+code-of-blank (suc zero) = (λ e. let z : _≡_ {A = ℕ} 1 0 = ap verdict-code e in absurd (omega arith), λ e. absurd (e .0 refl))
+code-of-blank (suc (suc zero)) = (λ e. let z : _≡_ {A = ℕ} 2 0 = ap verdict-code e in absurd (omega arith), λ e. absurd (e .1 refl))
+code-of-blank (suc (suc (suc n))) = (λ e. (λ q. omega arith, λ q. omega arith), λ e. refl)
+
+-- ---- the answers
+
+reply-show : (a : Checked) (v : Verdict) → look-reply (show-unless a v) ≡ a
+reply-show C.Accepted v = refl
+reply-show (C.Refused r) v = refl
+
+shows : (a : Checked) (v w : Verdict) → (show-unless a v ≡ L.Shows w) ↔ ((a ≡ C.Accepted) × (v ≡ w))
+shows C.Accepted v w = (λ e. (refl, same-verdict v w e), λ q. ap L.Shows (q .1))
+shows (C.Refused r) v w = (λ e. absurd (not-accepted r (ap look-reply e)), λ q. absurd (not-accepted r (q .0)))
 
 module _ (s verdicts : List ℕ) (rule minute : ℕ) (k : Policy-reader-causes s) where
-  abbrev shown : Verdict
-  shown = verdictOf (getD verdicts (rule * sizesOf s .minutes + minute) 0)
+  abbrev fits : Bool
+  fits = eqb (length verdicts) (policyOf s .rules * sizesOf s .minutes)
+
+  abbrev inside : Bool
+  inside = ltb rule (policyOf s .rules) && ltb minute (sizesOf s .minutes)
+
+  abbrev sheet : List Check
+  sheet = sheet-checks (policyOf s) verdicts rule minute
+
+  abbrev cs : List Check
+  cs = look-checks s verdicts rule minute
+
+  sized-law : (fits ≡ true) ↔ (length verdicts ≡ policyOf s .rules * sizesOf s .minutes)
+  sized-law = (eqb-true _ _, eq-eqb _ _)
+
+  inside-law : (inside ≡ true) ↔ ((rule < policyOf s .rules) × (minute < sizesOf s .minutes))
+  inside-law = (
+    λ e. let q = both (ltb rule (policyOf s .rules)) (ltb minute (sizesOf s .minutes)) e in (ltb-true _ _ (q .0), ltb-true _ _ (q .1)),
+    λ q. pair (lt-ltb _ _ (q .0)) (lt-ltb _ _ (q .1)),
+  )
+
+  -- 5 and 10
+  sheet-number : (r : Refusal) → Refuses sheet r → (numberOf r ≡ 5) ⊎ (numberOf r ≡ 10)
+  sheet-number r (here e) = inl refl
+  sheet-number r (there p (here e)) = inr refl
+
+  on-sheet : All-passed cs ↔ On-sheet s verdicts rule minute
+  on-sheet =
+      via (passed-parts (policy-checks s) sheet, λ q. passed-both (policy-checks s) sheet (q .0) (q .1))
+      (via (both-ways (passed-policy s k) (via (passed-parts (check fits BufferSize ∷ []) (check inside OutOfRange ∷ []), λ q. passed-both (check fits BufferSize ∷ []) (check inside OutOfRange ∷ []) (q .0) (q .1))
+      (both-ways (via (one-passes fits BufferSize) sized-law) (via (one-passes inside OutOfRange) inside-law))))
+      (λ q. record { policy = q .0; sized = q .1 .0; rule-in = q .1 .1 .0; minute-in = q .1 .1 .1 }, λ q. (q .policy, (q .sized, (q .rule-in, q .minute-in)))))
+
+  policy-first : (r : Refusal) → numberOf r ≤ 4 → Refuses cs r ↔ Refuses (policy-checks s) r
+  policy-first r l = refused-before (policy-checks s) sheet r (λ q. go (sheet-number r q))
+    where
+      go : (numberOf r ≡ 5) ⊎ (numberOf r ≡ 10) → ⊥
+      go (inl e) = omega arith
+      go (inr e) = omega arith
+
+  misfit : Refuses cs BufferSize ↔ (Policy-passed s × (length verdicts ≡ policyOf s .rules * sizesOf s .minutes → ⊥))
+  misfit =
+      via (after-policy s k sheet BufferSize (omega arith))
+      (both-ways same (via (refused-before (check fits BufferSize ∷ []) (check inside OutOfRange ∷ []) BufferSize (λ q. omega (arith, one-number inside OutOfRange BufferSize q)))
+      (via (one-fails fits BufferSize) (decided sized-law))))
+
+  outside : Refuses cs OutOfRange ↔ (Policy-passed s × (length verdicts ≡ policyOf s .rules * sizesOf s .minutes) × ((rule < policyOf s .rules) × (minute < sizesOf s .minutes) → ⊥))
+  outside =
+      via (after-policy s k sheet OutOfRange (omega arith))
+      (via (both-ways same (via (refused-after (check fits BufferSize ∷ []) (check inside OutOfRange ∷ []) OutOfRange (λ q. omega (arith, one-number fits BufferSize OutOfRange q)))
+      (both-ways (via (one-passes fits BufferSize) sized-law) (via (one-fails inside OutOfRange) (decided inside-law)))))
+      (λ q. (q .0, q .1 .0, q .1 .1), λ q. (q .0, (q .1, q .2))))
+
+  shown : (v : Verdict) {B : Type 0} → (verdictOf (code s verdicts rule minute) ≡ v) ↔ B → (lookupOf s verdicts rule minute ≡ L.Shows v) ↔ (On-sheet s verdicts rule minute × B)
+  unfolding lookupOf
+  shown v f = via (shows (first-failed cs) (verdictOf (code s verdicts rule minute)) v) (both-ways (via (passing-law cs) on-sheet) f)
 
   pub look-causes : Look-causes s verdicts rule minute (lookupOf s verdicts rule minute)
-  unfolding lookupOf look-at
+  unfolding lookupOf
   look-causes =
-      go (policy-answer s) refl (eqb (length verdicts) (policyOf s .rules * sizesOf s .minutes)) refl (ltb rule (policyOf s .rules) && ltb minute (sizesOf s .minutes)) refl (policy-numbered s)
+      let e = reply-show (first-failed cs) (verdictOf (code s verdicts rule minute)) in
+      record {
+        policy = rw e (policy-part s k cs policy-first);
+        five = λ at. rw e (via (number-law cs 5 at) (at-zero-two misfit));
+        ten = λ at. rw e (via (number-law cs 10 at) (at-zero-three outside));
+        no-other = λ n at. rw e (λ w. in-range n at (number-law cs n at .0 w));
+        kept = shown Satisfied (code-of-kept (code s verdicts rule minute));
+        broken = shown Violated (code-of-broken (code s verdicts rule minute));
+        blank = via (shown Unknown (code-of-blank (code s verdicts rule minute))) (λ q. (q .0, q .1 .0, q .1 .1), λ q. (q .0, (q .1, q .2)));
+      }
     where
-      out : Checked → Bool → Bool → Look
-      out a v w = after-policy a (cond v (cond w (L.Shows shown) (L.Refused OutOfRange)) (L.Refused BufferSize))
+      either : (r : Refusal) → Refuses (policy-checks s) r ⊎ (All-passed (policy-checks s) × Refuses sheet r) → ((1 ≤ numberOf r) × (numberOf r ≤ 5)) ⊎ (numberOf r ≡ 10)
+      either r (inl h) = inl (omega (arith, policy-refuses s r h))
+      either r (inr h) = go (sheet-number r (h .1))
+        where
+          go : (numberOf r ≡ 5) ⊎ (numberOf r ≡ 10) → ((1 ≤ numberOf r) × (numberOf r ≤ 5)) ⊎ (numberOf r ≡ 10)
+          go (inl z) = inl (omega arith)
+          go (inr z) = inr z
 
-      go : (a : Checked) → policy-answer s ≡ a → (v : Bool) → eqb (length verdicts) (policyOf s .rules * sizesOf s .minutes) ≡ v
-          → (w : Bool) → (ltb rule (policyOf s .rules) && ltb minute (sizesOf s .minutes)) ≡ w → Numbered 1 4 a → Look-causes s verdicts rule minute (out a v w)
-      go (C.Refused r) e v f w g n =
-          let off : Policy-passed s → ⊥ = λ q. not-accepted r (sym e ∙ k .accepted .1 q) in
-          record {
-            one = λ at. (λ q. k .one at .0 (e ∙ same-refusal r _ q), λ c. same-look r _ (sym e ∙ k .one at .1 c));
-            two = λ at. (λ q. k .two at .0 (e ∙ same-refusal r _ q), λ c. same-look r _ (sym e ∙ k .two at .1 c));
-            three = λ at. (λ q. k .three at .0 (e ∙ same-refusal r _ q), λ c. same-look r _ (sym e ∙ k .three at .1 c));
-            four = (λ q. k .four .0 (e ∙ same-refusal r _ q), λ c. same-look r _ (sym e ∙ k .four .1 c));
-            five = (λ q. apart (L.Refused r) (L.Refused BufferSize) q (omega (arith, n)), λ q. absurd (off (q .0)));
-            ten = (λ q. apart (L.Refused r) (L.Refused OutOfRange) q (omega (arith, n)), λ q. absurd (off (q .0)));
-            shows = λ v. (λ q. absurd (not-shown r v q), λ q. absurd (off (q .0)));
-          }
-      go C.Accepted e false f w g n =
-          let off : length verdicts ≡ policyOf s .rules * sizesOf s .minutes → ⊥ = λ q. true≢false (sym (eq-eqb _ _ q) ∙ f) in
-          record {
-            one = λ at. (λ q. apart (L.Refused BufferSize) _ q (omega arith), λ c. absurd (not-accepted _ (sym (k .one at .1 c) ∙ e)));
-            two = λ at. (λ q. apart (L.Refused BufferSize) _ q (omega arith), λ c. absurd (not-accepted _ (sym (k .two at .1 c) ∙ e)));
-            three = λ at. (λ q. apart (L.Refused BufferSize) _ q (omega arith), λ c. absurd (not-accepted _ (sym (k .three at .1 c) ∙ e)));
-            four = (λ q. apart (L.Refused BufferSize) _ q (omega arith), λ c. absurd (not-accepted _ (sym (k .four .1 c) ∙ e)));
-            five = (λ q. (k .accepted .0 e, off), λ q. refl);
-            ten = (λ q. apart (L.Refused BufferSize) (L.Refused OutOfRange) q (omega arith), λ q. absurd (off (q .1)));
-            shows = λ v. (λ q. absurd (not-shown BufferSize v q), λ q. absurd (off (q .1)));
-          }
-      go C.Accepted e true f false g n =
-          let sized : length verdicts ≡ policyOf s .rules * sizesOf s .minutes = eqb-true _ _ f in
-          let off : (rule < policyOf s .rules) × (minute < sizesOf s .minutes) → ⊥ = λ q. true≢false (sym (pair (lt-ltb _ _ (q .0)) (lt-ltb _ _ (q .1))) ∙ g) in
-          record {
-            one = λ at. (λ q. apart (L.Refused OutOfRange) _ q (omega arith), λ c. absurd (not-accepted _ (sym (k .one at .1 c) ∙ e)));
-            two = λ at. (λ q. apart (L.Refused OutOfRange) _ q (omega arith), λ c. absurd (not-accepted _ (sym (k .two at .1 c) ∙ e)));
-            three = λ at. (λ q. apart (L.Refused OutOfRange) _ q (omega arith), λ c. absurd (not-accepted _ (sym (k .three at .1 c) ∙ e)));
-            four = (λ q. apart (L.Refused OutOfRange) _ q (omega arith), λ c. absurd (not-accepted _ (sym (k .four .1 c) ∙ e)));
-            five = (λ q. apart (L.Refused OutOfRange) (L.Refused BufferSize) q (omega arith), λ q. absurd (q .1 sized));
-            ten = (λ q. (k .accepted .0 e, sized, off), λ q. refl);
-            shows = λ v. (λ q. absurd (not-shown OutOfRange v q), λ q. absurd (off (q .2, q .3)));
-          }
-      go C.Accepted e true f true g n =
-          let sized : length verdicts ≡ policyOf s .rules * sizesOf s .minutes = eqb-true _ _ f in
-          let there = both (ltb rule (policyOf s .rules)) (ltb minute (sizesOf s .minutes)) g in
-          let r : rule < policyOf s .rules = ltb-true _ _ (there .0) in
-          let t : minute < sizesOf s .minutes = ltb-true _ _ (there .1) in
-          record {
-            one = λ at. (λ q. absurd (not-shown _ shown (sym q)), λ c. absurd (not-accepted _ (sym (k .one at .1 c) ∙ e)));
-            two = λ at. (λ q. absurd (not-shown _ shown (sym q)), λ c. absurd (not-accepted _ (sym (k .two at .1 c) ∙ e)));
-            three = λ at. (λ q. absurd (not-shown _ shown (sym q)), λ c. absurd (not-accepted _ (sym (k .three at .1 c) ∙ e)));
-            four = (λ q. absurd (not-shown _ shown (sym q)), λ c. absurd (not-accepted _ (sym (k .four .1 c) ∙ e)));
-            five = (λ q. absurd (not-shown _ shown (sym q)), λ q. absurd (q .1 sized));
-            ten = (λ q. absurd (not-shown _ shown (sym q)), λ q. absurd (q .2 (r, t)));
-            shows = λ v. (λ q. (k .accepted .0 e, sized, r, t, same-verdict shown v q), λ q. ap L.Shows (sym (q .4)));
-          }
+      in-range : (n at : ℕ) → Refuses cs (refusal-of n at) × (numberOf (refusal-of n at) ≡ n) × (placeOf (refusal-of n at) ≡ at) → ((1 ≤ n) × (n ≤ 5)) ⊎ (n ≡ 10)
+      in-range n at q = rw (q .1) at (either (refusal-of n at) (refused-where (policy-checks s) sheet (refusal-of n at) (q .0)))

@@ -51,10 +51,10 @@ alive-at-4 = 0x16 ∷ 0x04 ∷ 0x00 ∷ 0x01 ∷ 0x00 ∷ []
 
 -- the verdict sheet after the takes of a list, and the answer to one more
 abbrev sheet : List ℕ → State → List (List ℕ) → List ℕ
-sheet s x bs = after s x bs .verdicts
+sheet s x bs = after s x (map Receive bs) .verdicts
 
 abbrev reply : List ℕ → State → List (List ℕ) → List ℕ → Answer
-reply s x bs b = receive s (after s x bs) b .answer
+reply s x bs b = receive s (after s x (map Receive bs)) b .answer
 
 abbrev row : ℕ → ℕ → ℕ → ℕ → List ℕ
 row a b c d = a ∷ b ∷ c ∷ d ∷ []
@@ -70,7 +70,7 @@ pub record Small-shift (x y : State) : Type 0 where
   pub d : sheet K x (D ∷ []) ≡ row 0 0 0 0
   -- `10` is taken and changes nothing
   pub idle : reply K x [] (0x10 ∷ []) ≡ Received 0
-  pub idle-state : after K x ((0x10 ∷ []) ∷ []) ≡ after K x []
+  pub idle-state : after K x (Receive (0x10 ∷ []) ∷ []) ≡ after K x []
   -- `00` is 8, `04 02 00` is 9, and after A `12 01 00` is 9 and so is A with last byte 01
   pub bad : reply K x [] (0x00 ∷ []) ≡ Refused BadMessage
   pub conflict : reply K x [] (0x04 ∷ 0x02 ∷ 0x00 ∷ []) ≡ Refused Conflict
@@ -95,7 +95,7 @@ module _ (s : List ℕ) (x : State) (e : open-state s x .state ≡ opened (polic
   sheet-from : (bs : List (List ℕ)) → sheet s x bs ≡ run s (opened (policyOf s)) (map Receive bs) .verdicts
   sheet-from bs = ap (λ (y : State). run s y (map Receive bs) .verdicts) e
 
-  state-from : (bs : List (List ℕ)) → after s x bs ≡ run s (opened (policyOf s)) (map Receive bs)
+  state-from : (bs : List (List ℕ)) → after s x (map Receive bs) ≡ run s (opened (policyOf s)) (map Receive bs)
   state-from bs = ap (λ (y : State). run s y (map Receive bs)) e
 
   reply-from : (bs : List (List ℕ)) (b : List ℕ) → reply s x bs b ≡ receive s (run s (opened (policyOf s)) (map Receive bs)) b .answer

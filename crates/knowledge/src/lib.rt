@@ -16,7 +16,7 @@ ghost use Rattle.knowledge.specs.Laws.{Limits};
 ghost use Rattle.knowledge.specs.Run.{cell, held, sent, told, gap, joined, may, may-observe, Next, Previous, Steady-runs, Point-row};
 
 // A sequence number that is not known.
-const NONE: u16 = 65535;
+pub const NONE: u16 = 65535;
 
 // The most minutes that a policy may have.
 const MOST_MINUTES: usize = 1024;

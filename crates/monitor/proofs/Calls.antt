@@ -1,73 +1,180 @@
--- What an opening and a take answer and leave, one law for each way through their checks. Assumes nothing.
+-- What the calls answer and leave, one law for each way through their checks. Assumes nothing.
 use mathlib.Core.Path.{_≡_, refl, sym, ap, ap₂, subst, _∙_}
 use mathlib.Core.Bool.{Bool, true, false}
-use mathlib.Core.List.{List}
+use mathlib.Core.List.{List, [], _∷_, _++_}
 use Prim.Native.Nat.{ℕ}
+use lib.ListN.{length}
+use borrow.Author.Tests.{eqb-true}
+use Rattle.mtl.specs.Folds.{both}
 use Rattle.refusal.specs.declared.Refusal.{Refusal}
 use Rattle.refusal.specs.declared.Refusal.the-variants.{BufferSize, CorruptKnowledge, Conflict}
-use Rattle.policy.specs.declared.Sizes.{Sizes}
-use Rattle.policy.specs.declared.Policy.{Policy}
 use Rattle.refusal.specs.declared.Answer.{Answer as Checked}
 use Rattle.refusal.specs.declared.Answer.the-variants as C
-use Rattle.policy.specs.Format.{answerOf, policyOf}
+use Rattle.refusal.specs.Checks.{Check, check, first-failed, and-then, Passed, pass, none}
+use Rattle.refusal.specs.Laws.{in-order, passing-law, passed-parts, not-accepted}
+use Rattle.policy.specs.declared.Sizes.{Sizes}
+use Rattle.policy.specs.declared.Policy.{Policy}
+use Rattle.policy.specs.declared.Decoded.{Decoded as Decoded-policy}
+use Rattle.policy.specs.Format.{policy-checks, answerOf, policyOf, decodeOf as decode-policy}
 use Rattle.policy.specs.Proper.{Proper}
+use Rattle.policy.specs.Laws.{accepted}
 use Rattle.message.specs.declared.Event.{Event}
 use Rattle.message.specs.declared.Decoded.{Decoded}
-use Rattle.message.specs.Format.{answerOf as message-answer, decodeOf}
+use Rattle.message.specs.Format.{message-checks, answerOf as message-answer, decodeOf}
 use Rattle.message.specs.Fixes.{Message, Fits, Well-formed, meaningOf}
 use Rattle.message.specs.Laws.{decoded, decoded-answer, fits}
-use Rattle.knowledge.specs.Knowledge.{sound, admits}
-use Rattle.knowledge.specs.Run.{sent}
+use Rattle.knowledge.specs.Knowledge.{Knowledge, Sound, sound, admits, Sized as Long}
+use Rattle.knowledge.specs.Laws.{Limits, sound-law}
+use Rattle.knowledge.specs.Run.{held, sent}
 use Rattle.monitor.specs.declared.Answer.{Answer}
 use Rattle.monitor.specs.declared.Answer.the-variants.{Done, Received, Refused}
-use Rattle.monitor.specs.State.{State, Outcome, refused, guard, afterwards, sized, opened, settle, take-message, open-state, receive}
-use Rattle.monitor.proofs.Decoding.{Read}
+use Rattle.monitor.specs.State.{State, lent, Outcome, unless, Sized, sizes-fit, sized, opened, settled, slip-checks, take-message, size-checks, record-checks, opening-checks, take-checks, open-state, receive}
+use Rattle.monitor.specs.Checked.{Checks}
+use Rattle.monitor.specs.Laws.{long-of, sized-law}
+use Rattle.monitor.proofs.Decoding.{Read, answered, read-policy}
+
+-- what comes after the first checks comes only where they pass
+pub unless-then : (a c : Checked) (x : State) (o : Outcome) → unless (and-then a c) x o ≡ unless a x (unless c x o)
+unless-then C.Accepted c x o = refl
+unless-then (C.Refused r) c x o = refl
+
+-- a list that passes, and one check after it
+one-more : (xs : List Check) (b : Bool) (r : Refusal) → first-failed (xs ++ (check b r ∷ [])) ≡ C.Accepted → (first-failed xs ≡ C.Accepted) × (b ≡ true)
+one-more xs b r e = let q = passed-parts xs (check b r ∷ []) (passing-law (xs ++ (check b r ∷ [])) .0 e) in (passing-law xs .1 (q .0), last (q .1))
+  where
+    last : Passed (check b r ∷ []) → b ≡ true
+    last (pass p none) = p
+
+-- its answer, where both are known
+after-list : (xs : List Check) (b : Bool) (r : Refusal) (a : Checked) (v : Bool) → first-failed xs ≡ a → b ≡ v
+    → first-failed (xs ++ (check b r ∷ [])) ≡ and-then a (first-failed (check v r ∷ []))
+after-list xs b r a v e f = in-order xs (check b r ∷ []) ∙ ap₂ (λ (c : Checked) (w : Bool). and-then c (first-failed (check w r ∷ []))) e f
+
+-- a check more, of something that was checked: where that was refused, where the check fails and where it passes
+module _ (xs : List Check) (b : Bool) (r : Refusal) (s : List ℕ) (d : Decoded-policy) (k : Checks xs s d) where
+  pub still-refused : (q : Refusal) → d .answer ≡ C.Refused q → Checks (xs ++ (check b r ∷ [])) s d
+  still-refused q e = record {
+    answer = e ∙ sym (after-list xs b r (C.Refused q) b (sym (k .answer) ∙ e) refl);
+    policy = λ f. absurd (not-accepted q (sym e ∙ f));
+  }
+
+  pub then-refused : (p : Policy) → d .answer ≡ C.Accepted → b ≡ false → Checks (xs ++ (check b r ∷ [])) s (record { answer = C.Refused r; policy = p })
+  then-refused p e f = record {
+    answer = sym (after-list xs b r C.Accepted false (sym (k .answer) ∙ e) f);
+    policy = λ g. absurd (not-accepted r g);
+  }
+
+  pub then-passed : d .answer ≡ C.Accepted → b ≡ true → Checks (xs ++ (check b r ∷ [])) s d
+  then-passed e f = record { answer = e ∙ sym (after-list xs b r C.Accepted true (sym (k .answer) ∙ e) f); policy = k .policy }
+
+-- ---- the first checks
+
+-- what the reader hands out
+pub reads : (s : List ℕ) (d : Decoded-policy) → d ≡ decode-policy s → Checks (policy-checks s) s d
+unfolding answerOf
+reads s d e = record { answer = sym (answered s d (d .answer) e refl); policy = λ f. read-policy s d e f .same }
+
+-- an accepted policy is in range
+pub read-of : (xs : List Check) (s : List ℕ) (d : Decoded-policy) → Checks xs s d → d .answer ≡ C.Accepted → answerOf s ≡ C.Accepted → Read s (d .policy)
+read-of xs s d k e f = record { card = f; same = k .policy e; proper = subst Proper (sym (k .policy e)) (accepted s f) }
+
+-- 5, after the reader
+module _ (s : List ℕ) (n f v e : ℕ) (d : Decoded-policy) (r : d ≡ decode-policy s) where
+  pub sizes-refused : (q : Refusal) → d .answer ≡ C.Refused q → Checks (size-checks s n f v e) s d
+  sizes-refused q a = still-refused (policy-checks s) (sizes-fit (policyOf s) n f v e) BufferSize s d (reads s d r) q a
+
+  module _ (a : d .answer ≡ C.Accepted) where
+    fitted : (b : Bool) → sizes-fit (d .policy) n f v e ≡ b → sizes-fit (policyOf s) n f v e ≡ b
+    fitted b = subst (λ (p : Policy). sizes-fit p n f v e ≡ b) (read-policy s d r a .same)
+
+    pub sizes-misfit : sizes-fit (d .policy) n f v e ≡ false → Checks (size-checks s n f v e) s (record { answer = C.Refused BufferSize; policy = d .policy })
+    sizes-misfit t = then-refused (policy-checks s) (sizes-fit (policyOf s) n f v e) BufferSize s d (reads s d r) (d .policy) a (fitted false t)
+
+    pub sizes-fine : sizes-fit (d .policy) n f v e ≡ true → Checks (size-checks s n f v e) s d
+    sizes-fine t = then-passed (policy-checks s) (sizes-fit (policyOf s) n f v e) BufferSize s d (reads s d r) a (fitted true t)
+
+module _ (s : List ℕ) (n f v e : ℕ) (d : Decoded-policy) (k : Checks (size-checks s n f v e) s d) (a : d .answer ≡ C.Accepted) where
+  passed-sizes : (answerOf s ≡ C.Accepted) × (sizes-fit (policyOf s) n f v e ≡ true)
+  unfolding answerOf
+  passed-sizes = one-more (policy-checks s) (sizes-fit (policyOf s) n f v e) BufferSize (sym (k .answer) ∙ a)
+
+  pub sizes-read : Read s (d .policy)
+  sizes-read = read-of (size-checks s n f v e) s d k a (passed-sizes .0)
+
+  pub sizes-passed : sizes-fit (d .policy) n f v e ≡ true
+  sizes-passed = subst (λ (p : Policy). sizes-fit p n f v e ≡ true) (sym (k .policy a)) (passed-sizes .1)
+
+-- what a look at the record's soundness needs
+pub record-long : (p : Policy) (k : Knowledge) (v e : ℕ) → sizes-fit p (length (k .numbers)) (length (k .facts)) v e ≡ true → Long (p .sizes) k
+unfolding sizes-fit
+record-long p k v e t = let a = both _ _ t in record { numbers = eqb-true _ _ (a .0); facts = eqb-true _ _ (both _ _ (a .1) .0) }
+
+-- 6, after 5
+module _ (s : List ℕ) (k : Knowledge) (v e : ℕ) (d : Decoded-policy) (c : Checks (size-checks s (length (k .numbers)) (length (k .facts)) v e) s d) where
+  abbrev firsts : List Check
+  firsts = size-checks s (length (k .numbers)) (length (k .facts)) v e
+
+  pub record-refused : (q : Refusal) → d .answer ≡ C.Refused q → Checks (record-checks s k v e) s d
+  record-refused q a = still-refused firsts (sound (policyOf s .sizes) k) CorruptKnowledge s d c q a
+
+  module _ (a : d .answer ≡ C.Accepted) where
+    tested : (b : Bool) → sound (d .policy .sizes) k ≡ b → sound (policyOf s .sizes) k ≡ b
+    tested b = subst (λ (p : Policy). sound (p .sizes) k ≡ b) (c .policy a)
+
+    pub record-corrupt : sound (d .policy .sizes) k ≡ false → Checks (record-checks s k v e) s (record { answer = C.Refused CorruptKnowledge; policy = d .policy })
+    record-corrupt t = then-refused firsts (sound (policyOf s .sizes) k) CorruptKnowledge s d c (d .policy) a (tested false t)
+
+    pub record-fine : sound (d .policy .sizes) k ≡ true → Checks (record-checks s k v e) s d
+    record-fine t = then-passed firsts (sound (policyOf s .sizes) k) CorruptKnowledge s d c a (tested true t)
+
+module _ (s : List ℕ) (x : State) (d : Decoded-policy)
+    (k : Checks (record-checks s (x .known) (length (x .valuation)) (length (x .verdicts))) s d) (a : d .answer ≡ C.Accepted) where
+  passed-record : (first-failed (opening-checks s x) ≡ C.Accepted) × (sound (policyOf s .sizes) (x .known) ≡ true)
+  passed-record = one-more (opening-checks s x) (sound (policyOf s .sizes) (x .known)) CorruptKnowledge (sym (k .answer) ∙ a)
+
+  passed-first : (answerOf s ≡ C.Accepted) × (sized (policyOf s) x ≡ true)
+  unfolding answerOf
+  passed-first = one-more (policy-checks s) (sized (policyOf s) x) BufferSize (passed-record .0)
+
+  pub record-read : Read s (d .policy)
+  record-read = read-of _ s d k a (passed-first .0)
+
+  pub record-sized : Sized (d .policy) x
+  record-sized = subst (λ (p : Policy). Sized p x) (sym (k .policy a)) (sized-law (policyOf s) x .0 (passed-first .1))
+
+  pub record-sound : Sound (d .policy .sizes) (x .known)
+  record-sound = subst (λ (p : Policy). Sound (p .sizes) (x .known)) (sym (k .policy a)) (sound-law (policyOf s .sizes) (x .known) .0 (passed-record .1))
 
 -- ---- an opening
 
-module _ (s : List ℕ) (x : State) where
-  pub open-refused : (r : Refusal) → answerOf s ≡ C.Refused r → refused x r ≡ open-state s x
+module _ (s : List ℕ) (x : State) (d : Decoded-policy) (k : Checks (opening-checks s x) s d) where
+  pub open-refused : (r : Refusal) → d .answer ≡ C.Refused r → record { answer = Refused r; state = x } ≡ open-state s x
   unfolding open-state
-  open-refused r e = sym (ap (λ (a : Checked). afterwards a x (guard (sized (policyOf s) x) BufferSize x (record { answer = Done; state = opened (policyOf s) }))) e)
+  open-refused r e = sym (ap (λ (a : Checked). unless a x (record { answer = Done; state = opened (policyOf s) })) (sym (k .answer) ∙ e))
 
-  module _ (p : Policy) (z : Read s p) where
-    opens : (v : Bool) → sized p x ≡ v → guard v BufferSize x (record { answer = Done; state = opened p }) ≡ open-state s x
-    unfolding open-state
-    opens v e =
-        sym (ap (λ (a : Checked). afterwards a x (guard (sized (policyOf s) x) BufferSize x (record { answer = Done; state = opened (policyOf s) }))) (z .card)
-        ∙ ap (λ (q : Policy). guard (sized q x) BufferSize x (record { answer = Done; state = opened q })) (sym (z .same))
-        ∙ ap (λ (b : Bool). guard b BufferSize x (record { answer = Done; state = opened p })) e)
-
-    pub open-misfit : sized p x ≡ false → refused x BufferSize ≡ open-state s x
-    open-misfit e = opens false e
-
-    pub open-done : (y : State) → sized p x ≡ true → y ≡ opened p → record { answer = Done; state = y } ≡ open-state s x
-    open-done y e f = ap (λ (w : State). record { answer = Done; state = w }) f ∙ opens true e
+  pub open-done : (y : State) → d .answer ≡ C.Accepted → y ≡ opened (d .policy) → record { answer = Done; state = y } ≡ open-state s x
+  unfolding open-state
+  open-done y e f =
+      ap (λ (w : State). record { answer = Done; state = w }) (f ∙ ap opened (k .policy e))
+      ∙ sym (ap (λ (a : Checked). unless a x (record { answer = Done; state = opened (policyOf s) })) (sym (k .answer) ∙ e))
 
 -- ---- a take
 
-module _ (s : List ℕ) (x : State) (b : List ℕ) where
-  pub receive-refused : (r : Refusal) → answerOf s ≡ C.Refused r → refused x r ≡ receive s x b
+module _ (s : List ℕ) (x : State) (b : List ℕ) (d : Decoded-policy)
+    (k : Checks (record-checks s (x .known) (length (x .valuation)) (length (x .verdicts))) s d) where
+  in-turn : (a : Checked) → d .answer ≡ a → unless a x (take-message (policyOf s) x b) ≡ receive s x b
   unfolding receive
-  receive-refused r e =
-      sym (ap (λ (a : Checked). afterwards a x (guard (sized (policyOf s) x) BufferSize x (guard (sound (policyOf s .sizes) (x .known)) CorruptKnowledge x (take-message (policyOf s) x b)))) e)
+  in-turn a e =
+      sym (ap (λ (c : Checked). unless c x (settled (policyOf s) x (meaningOf b)))
+      (in-order (record-checks s (x .known) (length (x .valuation)) (length (x .verdicts))) (slip-checks (policyOf s) x b))
+      ∙ unless-then (first-failed (record-checks s (x .known) (length (x .valuation)) (length (x .verdicts)))) (first-failed (slip-checks (policyOf s) x b)) x _
+      ∙ ap (λ (c : Checked). unless c x (take-message (policyOf s) x b)) (sym (k .answer) ∙ e))
 
-  module _ (p : Policy) (z : Read s p) where
-    receives : (v w : Bool) → sized p x ≡ v → sound (p .sizes) (x .known) ≡ w → guard v BufferSize x (guard w CorruptKnowledge x (take-message p x b)) ≡ receive s x b
-    unfolding receive
-    receives v w e f =
-        sym (ap (λ (a : Checked). afterwards a x (guard (sized (policyOf s) x) BufferSize x (guard (sound (policyOf s .sizes) (x .known)) CorruptKnowledge x (take-message (policyOf s) x b)))) (z .card)
-        ∙ ap (λ (q : Policy). guard (sized q x) BufferSize x (guard (sound (q .sizes) (x .known)) CorruptKnowledge x (take-message q x b))) (sym (z .same))
-        ∙ ap₂ (λ (c d : Bool). guard c BufferSize x (guard d CorruptKnowledge x (take-message p x b))) e f)
+  pub receive-refused : (r : Refusal) → d .answer ≡ C.Refused r → record { answer = Refused r; state = x } ≡ receive s x b
+  receive-refused r e = in-turn (C.Refused r) e
 
-    pub receive-misfit : sized p x ≡ false → refused x BufferSize ≡ receive s x b
-    receive-misfit e = receives false (sound (p .sizes) (x .known)) e refl
-
-    pub receive-corrupt : sized p x ≡ true → sound (p .sizes) (x .known) ≡ false → refused x CorruptKnowledge ≡ receive s x b
-    receive-corrupt e f = receives true false e f
-
-    pub receive-taken : (o : Outcome) → sized p x ≡ true → sound (p .sizes) (x .known) ≡ true → o ≡ take-message p x b → o ≡ receive s x b
-    receive-taken o e f g = g ∙ receives true true e f
+  pub receive-taken : (o : Outcome) → d .answer ≡ C.Accepted → o ≡ take-message (d .policy) x b → o ≡ receive s x b
+  receive-taken o e f = f ∙ ap (λ (p : Policy). take-message p x b) (k .policy e) ∙ in-turn C.Accepted e
 
 -- ---- its message
 
@@ -89,18 +196,21 @@ pub heard-fits : (p : Policy) → Proper p → (b : List ℕ) (component : ℕ) 
 heard-fits p z b component event h = subst (Fits (p .sizes)) (sym (h .same)) (fits (p .sizes) (z .propositions .high) b (h .formed))
 
 module _ (p : Policy) (x : State) (b : List ℕ) where
-  pub message-refused : (r : Refusal) → message-answer (p .sizes) b ≡ C.Refused r → refused x r ≡ take-message p x b
-  message-refused r e = sym (ap (λ (a : Checked). afterwards a x (settle p x (meaningOf b) (admits (p .sizes) (x .known) (meaningOf b)))) e)
+  -- the message's checks, and then 9
+  answers : (a : Checked) → message-answer (p .sizes) b ≡ a → (v : Bool) → admits (p .sizes) (x .known) (meaningOf b) ≡ v
+      → unless (and-then a (first-failed (check v Conflict ∷ []))) x (settled p x (meaningOf b)) ≡ take-message p x b
+  unfolding message-answer
+  answers a e v f = sym (ap (λ (c : Checked). unless c x (settled p x (meaningOf b))) (after-list (message-checks (p .sizes) b) (admits (p .sizes) (x .known) (meaningOf b)) Conflict a v e f))
+
+  pub message-refused : (r : Refusal) → message-answer (p .sizes) b ≡ C.Refused r → record { answer = Refused r; state = x } ≡ take-message p x b
+  message-refused r e = answers (C.Refused r) e (admits (p .sizes) (x .known) (meaningOf b)) refl
 
   module _ (component : ℕ) (event : Event) (h : Heard (p .sizes) b component event) where
-    takes : (v : Bool) → admits (p .sizes) (x .known) (sent component event) ≡ v → settle p x (sent component event) v ≡ take-message p x b
-    takes v e =
-        sym (ap (λ (a : Checked). afterwards a x (settle p x (meaningOf b) (admits (p .sizes) (x .known) (meaningOf b)))) (h .formed)
-        ∙ ap (λ (m : Message). settle p x m (admits (p .sizes) (x .known) m)) (sym (h .same))
-        ∙ ap (settle p x (sent component event)) e)
+    admitted : (v : Bool) → admits (p .sizes) (x .known) (sent component event) ≡ v → admits (p .sizes) (x .known) (meaningOf b) ≡ v
+    admitted v e = ap (admits (p .sizes) (x .known)) (sym (h .same)) ∙ e
 
-    pub message-conflict : admits (p .sizes) (x .known) (sent component event) ≡ false → refused x Conflict ≡ take-message p x b
-    message-conflict e = takes false e
+    pub message-conflict : admits (p .sizes) (x .known) (sent component event) ≡ false → record { answer = Refused Conflict; state = x } ≡ take-message p x b
+    message-conflict e = answers C.Accepted (h .formed) false (admitted false e)
 
-    pub message-taken : (o : Outcome) → admits (p .sizes) (x .known) (sent component event) ≡ true → o ≡ settle p x (sent component event) true → o ≡ take-message p x b
-    message-taken o e f = f ∙ takes true e
+    pub message-taken : (o : Outcome) → admits (p .sizes) (x .known) (sent component event) ≡ true → o ≡ settled p x (sent component event) → o ≡ take-message p x b
+    message-taken o e f = f ∙ ap (settled p x) (h .same) ∙ answers C.Accepted (h .formed) true (admitted true e)

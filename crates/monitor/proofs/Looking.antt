@@ -13,12 +13,16 @@ use Rattle.refusal.specs.declared.Refusal.{Refusal}
 use Rattle.refusal.specs.declared.Refusal.the-variants.{BufferSize, OutOfRange}
 use Rattle.refusal.specs.declared.Answer.{Answer as Checked}
 use Rattle.refusal.specs.declared.Answer.the-variants as C
-use Rattle.policy.specs.Format.{answerOf, policyOf}
+use Rattle.refusal.specs.Checks.{first-failed, and-then}
+use Rattle.refusal.specs.Laws.{in-order}
+use Rattle.policy.specs.Format.{policy-checks, answerOf, policyOf}
 use Rattle.policy.specs.declared.Policy.{Policy}
 use Rattle.policy.specs.Proper.{Proper}
+use Rattle.monitor.specs.declared.Verdict.{Verdict}
 use Rattle.monitor.specs.declared.Verdict.the-variants.{Unknown}
+use Rattle.monitor.specs.declared.Look.{Look}
 use Rattle.monitor.specs.declared.Look.the-variants.{Shows, Refused}
-use Rattle.monitor.specs.Lookup.{verdictOf, look-at, after-policy, lookupOf}
+use Rattle.monitor.specs.Lookup.{verdictOf, show-unless, sheet-checks, code-at, look-at, lookupOf}
 use Rattle.monitor.proofs.Decoding.{Read}
 
 pub blank : (n : ℕ) → (n ≡ 1 → ⊥) → (n ≡ 2 → ⊥) → Unknown ≡ verdictOf n
@@ -58,10 +62,19 @@ row-small p z r l = mul-le-mul {n₁ = r} {n₂ = 8} (let h = z .rules .high in 
 
 -- the look after its policy is read
 module _ (s v : List ℕ) (r t : ℕ) where
+  show-then : (a c : Checked) (x : Verdict) → show-unless (and-then a c) x ≡ elim a [ C.Accepted ↦ show-unless c x | C.Refused q ↦ Refused q ]
+  show-then C.Accepted c x = refl
+  show-then (C.Refused q) c x = refl
+
+  looks : (a : Checked) → answerOf s ≡ a → elim a [ C.Accepted ↦ look-at (policyOf s) v r t | C.Refused q ↦ Refused q ] ≡ lookupOf s v r t
+  unfolding lookupOf look-at answerOf
+  looks a e =
+      sym (ap (λ (c : Checked). show-unless c (verdictOf (code-at (policyOf s) v r t))) (in-order (policy-checks s) (sheet-checks (policyOf s) v r t))
+      ∙ show-then (first-failed (policy-checks s)) (first-failed (sheet-checks (policyOf s) v r t)) (verdictOf (code-at (policyOf s) v r t))
+      ∙ ap (λ (c : Checked). elim c [ C.Accepted ↦ show-unless (first-failed (sheet-checks (policyOf s) v r t)) (verdictOf (code-at (policyOf s) v r t)) | C.Refused q ↦ Refused q ]) e)
+
   pub refused-look : (q : Refusal) → answerOf s ≡ C.Refused q → Refused q ≡ lookupOf s v r t
-  unfolding lookupOf
-  refused-look q e = sym (ap (λ (a : Checked). after-policy a (look-at (policyOf s) v r t)) e)
+  refused-look q e = looks (C.Refused q) e
 
   pub read-look : (p : Policy) → Read s p → look-at p v r t ≡ lookupOf s v r t
-  unfolding lookupOf
-  read-look p z = ap (λ (q : Policy). look-at q v r t) (z .same) ∙ sym (ap (λ (a : Checked). after-policy a (look-at (policyOf s) v r t)) (z .card))
+  read-look p z = ap (λ (q : Policy). look-at q v r t) (z .same) ∙ looks C.Accepted (z .card)

@@ -22,8 +22,8 @@ use Rattle.valuation.specs.Rows.{Points}
 use Rattle.valuation.specs.Sheets.{valuation-of, verdicts-of, standing}
 use Rattle.monitor.specs.declared.Answer.{Answer}
 use Rattle.monitor.specs.declared.Answer.the-variants.{Received}
-use Rattle.monitor.specs.State.{State, Outcome, lent, outcome, Sized, opened, settle}
-use Rattle.monitor.specs.Laws.{fresh-sound, sheet-lengths, long-of}
+use Rattle.monitor.specs.State.{State, Outcome, lent, outcome, Sized, opened, rewritten, settled}
+use Rattle.monitor.specs.Laws.{fresh-sound, sheet-lengths, long-of, blank-sheet, lengths}
 
 pub limits : (p : Policy) → Proper p → Limits (p .sizes)
 limits p z = record { propositions-most = z .propositions .high; minutes-most = z .minutes .high }
@@ -52,41 +52,62 @@ module _ (p : Policy) (k : Knowledge) (points : List ℕ) (row : Point-row (p .s
       let g = f k told all in
       (whole (p .rules * p .sizes .minutes) (verdicts-of p k) new old e (g .0), g .1)
 
+-- ---- both sheets from the record
+
+module _ (p : Policy) (proper : Proper p) (n f v d : List ℕ) (z : Sized p (lent n f v d)) (sound : Sound (p .sizes) (held n f)) where
+  -- what the row of time points needs
+  pub row-needs : (p .sizes .minutes ≤ 1024) × (length n ≡ p .sizes .components * suc (p .sizes .minutes)) × Steady-runs (p .sizes) n
+  row-needs = (proper .minutes .high, z .numbers, runs-of (p .sizes) (held n f) sound)
+
+  pub rewrites : (v′ d′ points : List ℕ) (r : ℕ) → Point-row (p .sizes) n points
+      → ((y : Knowledge) → y .facts ≡ f → Points (p .sizes) y points → v′ ≡ valuation-of p y ++ drop (p .count * p .sizes .minutes) v)
+      → ((y : Knowledge) → Points (p .sizes) y points → take (p .count * p .sizes .minutes) v′ ≡ valuation-of p y
+      → (d′ ≡ verdicts-of p y ++ drop (p .rules * p .sizes .minutes) d) × (r ≡ standing (verdicts-of p y)))
+      → outcome (Received r) n f v′ d′ ≡ rewritten p (held n f)
+  rewrites v′ d′ points r row w u =
+      let x : v′ ≡ valuation-of p (held n f) = evaluated p (held n f) points row v v′ (z .valuation) w in
+      let c = concluded p (held n f) points row v′ d d′ r x (z .verdicts) u in
+      rw (x, c .0, c .1) refl
+
+-- what both sheets leave, from numbers and facts that are those of some knowledge
+pub rewritten-of : (p : Policy) (k : Knowledge) (n f v d : List ℕ) (r : ℕ) → n ≡ k .numbers → f ≡ k .facts
+    → outcome (Received r) n f v d ≡ rewritten p (held n f) → outcome (Received r) n f v d ≡ rewritten p k
+rewritten-of p k n f v d r a b e = e ∙ ap₂ (λ (x y : List ℕ). rewritten p (held x y)) a b
+
 -- ---- an opening
 
-module _ (p : Policy) (proper : Proper p) (n f v d : List ℕ) (z : Sized p (lent n f v d)) where
+module _ (p : Policy) (n f v d : List ℕ) (z : Sized p (lent n f v d)) where
   fresh-numbers : (n′ : List ℕ) → n′ ≡ table (length n) (λ i. cond (eqb (i % (p .sizes .minutes + 1)) 0) 0 none) → n′ ≡ fresh (p .sizes) .numbers
   unfolding fresh
   fresh-numbers n′ e =
       e ∙ ap (λ (m : ℕ). table m (λ i. cond (eqb (i % (p .sizes .minutes + 1)) 0) 0 none)) (z .numbers)
       ∙ ap (λ (m : ℕ). table (p .sizes .components * suc (p .sizes .minutes)) (λ i. cond (eqb (i % m) 0) 0 none)) (add-one (p .sizes .minutes))
 
-  fresh-facts : (f′ : List ℕ) → f′ ≡ replicate (length f) 0 → f′ ≡ fresh (p .sizes) .facts
+  all-zero : (f′ : List ℕ) → f′ ≡ replicate (length f) 0 → f′ ≡ fresh (p .sizes) .facts
   unfolding fresh
-  fresh-facts f′ e = e ∙ ap (λ (m : ℕ). replicate m 0) (z .facts)
+  all-zero f′ e = e ∙ ap (λ (m : ℕ). replicate m 0) (z .facts)
 
-  -- what the row of time points needs
-  pub fresh-row : (n′ : List ℕ) → n′ ≡ table (length n) (λ i. cond (eqb (i % (p .sizes .minutes + 1)) 0) 0 none)
-      → (p .sizes .minutes ≤ 1024) × (length n′ ≡ p .sizes .components * suc (p .sizes .minutes)) × Steady-runs (p .sizes) n′
-  fresh-row n′ e =
-      (proper .minutes .high, ap length e ∙ table-length (length n) _ ∙ z .numbers, subst (Steady-runs (p .sizes)) (sym (fresh-numbers n′ e)) (runs-of (p .sizes) (fresh (p .sizes)) (fresh-sound p)))
+  module _ (n′ f′ : List ℕ) (a : n′ ≡ table (length n) (λ i. cond (eqb (i % (p .sizes .minutes + 1)) 0) 0 none)) (b : f′ ≡ replicate (length f) 0) where
+    pub fresh-needs : Sized p (lent n′ f′ v d) × Sound (p .sizes) (held n′ f′)
+    fresh-needs = (
+      record {
+        numbers = ap length (fresh-numbers n′ a) ∙ lengths p .0;
+        facts = ap length (all-zero f′ b) ∙ lengths p .1;
+        valuation = z .valuation;
+        verdicts = z .verdicts;
+      },
+      rw (fresh-numbers n′ a, all-zero f′ b) (fresh-sound p),
+    )
 
-  pub refreshed : (n′ f′ v′ d′ points : List ℕ) → n′ ≡ table (length n) (λ i. cond (eqb (i % (p .sizes .minutes + 1)) 0) 0 none) → f′ ≡ replicate (length f) 0
-      → d′ ≡ replicate (length d) 0 → Point-row (p .sizes) n′ points
-      → ((y : Knowledge) → y .facts ≡ f′ → Points (p .sizes) y points → v′ ≡ valuation-of p y ++ drop (p .count * p .sizes .minutes) v) → lent n′ f′ v′ d′ ≡ opened p
-  unfolding opened
-  refreshed n′ f′ v′ d′ points e g h row w =
-      let a = fresh-numbers n′ e in
-      let b = fresh-facts f′ g in
-      let x : v′ ≡ valuation-of p (fresh (p .sizes)) =
-      evaluated p (fresh (p .sizes)) points (subst (λ (l : List ℕ). Point-row (p .sizes) l points) a row) v v′ (z .valuation)
-      (λ y q r. w y (q ∙ sym b) r) in
-      let c : d′ ≡ replicate (p .rules * p .sizes .minutes) 0 = h ∙ ap (λ (m : ℕ). replicate m 0) (z .verdicts) in
-      rw (a, b, x, c) refl
+    pub refreshed : (v′ d′ : List ℕ) (r : ℕ) → outcome (Received r) n′ f′ v′ d′ ≡ rewritten p (held n′ f′) → lent n′ f′ v′ d′ ≡ opened p
+    unfolding opened
+    refreshed v′ d′ r e =
+        ap (λ (o : Outcome). o .state) (rewritten-of p (fresh (p .sizes)) n′ f′ v′ d′ r (fresh-numbers n′ a) (all-zero f′ b) e)
+        ∙ ap (λ (l : List ℕ). record { known = fresh (p .sizes); valuation = valuation-of p (fresh (p .sizes)); verdicts = l }) (sym (blank-sheet p))
 
 -- ---- a message
 
-module _ (p : Policy) (proper : Proper p) (n f v d : List ℕ) (z : Sized p (lent n f v d)) (m : Message) (fits : Fits (p .sizes) m) (ok : admits (p .sizes) (held n f) m ≡ true) where
+module _ (p : Policy) (n f v d : List ℕ) (z : Sized p (lent n f v d)) (m : Message) (fits : Fits (p .sizes) m) (ok : admits (p .sizes) (held n f) m ≡ true) where
   abbrev next : Knowledge
   next = stored (p .sizes) (held n f) m
 
@@ -97,18 +118,12 @@ module _ (p : Policy) (proper : Proper p) (n f v d : List ℕ) (z : Sized p (len
   next-long : Long (p .sizes) next
   next-long = store-long (p .sizes) (held n f) m (long-of p (lent n f v d) z) fits
 
-  pub next-row : (n′ : List ℕ) → n′ ≡ next .numbers
-      → (p .sizes .minutes ≤ 1024) × (length n′ ≡ p .sizes .components * suc (p .sizes .minutes)) × Steady-runs (p .sizes) n′
-  next-row n′ e =
-      (proper .minutes .high, ap length e ∙ next-long .numbers, subst (Steady-runs (p .sizes)) (sym e) (runs-of (p .sizes) next next-sound))
+  module _ (n′ f′ : List ℕ) (a : n′ ≡ next .numbers) (b : f′ ≡ next .facts) where
+    pub next-needs : Sized p (lent n′ f′ v d) × Sound (p .sizes) (held n′ f′)
+    next-needs = (
+      record { numbers = ap length a ∙ next-long .numbers; facts = ap length b ∙ next-long .facts; valuation = z .valuation; verdicts = z .verdicts },
+      rw (a, b) next-sound,
+    )
 
-  pub settled : (n′ f′ v′ d′ points : List ℕ) (r : ℕ) → n′ ≡ next .numbers → f′ ≡ next .facts → Point-row (p .sizes) n′ points
-      → ((y : Knowledge) → y .facts ≡ f′ → Points (p .sizes) y points → v′ ≡ valuation-of p y ++ drop (p .count * p .sizes .minutes) v)
-      → ((y : Knowledge) → Points (p .sizes) y points → take (p .count * p .sizes .minutes) v′ ≡ valuation-of p y
-      → (d′ ≡ verdicts-of p y ++ drop (p .rules * p .sizes .minutes) d) × (r ≡ standing (verdicts-of p y)))
-      → outcome (Received r) n′ f′ v′ d′ ≡ settle p (lent n f v d) m true
-  settled n′ f′ v′ d′ points r a b row w u =
-      let told = subst (λ (l : List ℕ). Point-row (p .sizes) l points) a row in
-      let x : v′ ≡ valuation-of p next = evaluated p next points told v v′ (z .valuation) (λ y q t. w y (q ∙ sym b) t) in
-      let c = concluded p next points told v′ d d′ r x (z .verdicts) u in
-      rw (a, b, x, c .0, c .1) refl
+    pub stored-settled : (v′ d′ : List ℕ) (r : ℕ) → outcome (Received r) n′ f′ v′ d′ ≡ rewritten p (held n′ f′) → outcome (Received r) n′ f′ v′ d′ ≡ settled p (lent n f v d) m
+    stored-settled v′ d′ r e = rewritten-of p next n′ f′ v′ d′ r a b e

@@ -1,5 +1,5 @@
 -- What was demanded, as types. Read this file first; each statement stands below the sentence that it formalises. `demand-1`, `demand-2`
--- and `demand-3` of Proved have these types.
+-- and `demand-3` of the crate demands have these types.
 --
 -- s are the bytes of a card, any bytes; `policyOf s` is what they say where they are accepted. x is a state: the four lent buffers, of any
 -- length and content. b are the bytes of a slip, any bytes.
@@ -7,15 +7,18 @@ use Prim.Native.Nat.{ℕ, _+_, _*_, _≤_, _<_}
 use mathlib.Core.Path.{_≡_}
 use mathlib.Core.Bool.{Bool, true, false, cond}
 use mathlib.Core.Logic.{_⊎_, _↔_, _≢_}
-use mathlib.Core.List.{List, _∷_, _++_, List·Memᴰ}
+use mathlib.Core.List.{List, _∷_, _++_}
 use lib.ListN.{getD, length}
 use Rattle.kleene.specs.Truth.{true3, false3, codeOf}
 use Rattle.mtl.specs.Textbook.{Holds}
 use Rattle.refusal.specs.declared.Refusal.{Refusal}
-use Rattle.refusal.specs.declared.Refusal.the-variants.{TruncatedPolicy, BadHeading, BadSubformula, RuleCount, BufferSize, CorruptKnowledge, TruncatedMessage, BadMessage, Conflict, OutOfRange}
+use Rattle.refusal.specs.declared.Refusal.the-variants.{Conflict}
+use Rattle.refusal.specs.declared.Answer.{Answer as Checked}
+use Rattle.refusal.specs.declared.Answer.the-variants as C
+use Rattle.refusal.specs.Table.{Table}
+use Rattle.refusal.specs.Checks.{Refused-with}
 use Rattle.policy.specs.declared.Sizes.{Sizes}
 use Rattle.policy.specs.declared.Policy.{Policy}
-use Rattle.refusal.specs.declared.Answer.the-variants as C
 use Rattle.policy.specs.Format.{policyOf, countOf, rulesUpTo}
 use Rattle.policy.specs.Proper.{formulaAt, rulesOf, Between, Cut, Misheaded, Misformed, Whole}
 use Rattle.message.specs.Format.{lengthOf, goodMessage}
@@ -26,11 +29,11 @@ use Rattle.knowledge.specs.Knowledge.{Knowledge, none, noted, valued, fact, num
 use Rattle.valuation.specs.Sheets.{value, standing}
 use Rattle.monitor.specs.declared.Answer.{Answer}
 use Rattle.monitor.specs.declared.Answer.the-variants.{Done, Received, Refused}
-use Rattle.monitor.specs.declared.Verdict.{Verdict}
+use Rattle.monitor.specs.declared.Verdict.the-variants.{Unknown, Satisfied, Violated}
 use Rattle.monitor.specs.declared.Look.{Look}
 use Rattle.monitor.specs.declared.Look.the-variants as L
-use Rattle.monitor.specs.Lookup.{verdictOf, lookupOf}
-use Rattle.monitor.specs.State.{State, Outcome, Sized, open-state, receive, after, Taken, accepted}
+use Rattle.monitor.specs.Lookup.{lookupOf}
+use Rattle.monitor.specs.State.{State, Outcome, Sized, open-state, receive, Call, Receive, after, Taken, accepted, Offered}
 
 -- ---- words
 
@@ -81,23 +84,36 @@ pub record Exact (z : Sizes) (k : Knowledge) (Q : Message → Type 0) : Type 0 w
 
 -- ---- demand 1
 
--- "Each refusal carries its number": each is answered exactly for its own cause, and none earlier. "No refused call changes anything lent to
--- it." (That no call reads or writes out of bounds, wraps a sum or fails to end is proved of every function of the code.)
--- 1 to 4, of any call that is lent a card
-pub record Policy-causes (s : List ℕ) (a : Answer) : Type 0 where
-  pub one : (at : ℕ) → (a ≡ Refused (TruncatedPolicy at)) ↔ Cut s at
-  pub two : (at : ℕ) → (a ≡ Refused (BadHeading at)) ↔ Misheaded s at
-  pub three : (at : ℕ) → (a ≡ Refused (BadSubformula at)) ↔ Misformed s at
-  pub four : (a ≡ Refused RuleCount) ↔ (Whole s × (Between 1 8 (rulesUpTo s (countOf s)) → ⊥))
+-- "Each refusal carries its number": each is answered, with its number and place of 01's table, exactly for its own cause, and none earlier. "No
+-- refused call changes anything lent to it." (That no call reads or writes out of bounds, wraps a sum or fails to end is proved of every function
+-- of the code.)
+
+-- a call's answer, as accepted or refused
+abbrev pub reply : Answer → Checked
+reply Done = C.Accepted
+reply (Received n) = C.Accepted
+reply (Refused r) = C.Refused r
+
+abbrev pub look-reply : Look → Checked
+look-reply (L.Shows v) = C.Accepted
+look-reply (L.Refused r) = C.Refused r
+
+-- 1 to 4, of any call that is lent a card; the others have place 0
+pub record Policy-causes (s : List ℕ) (a : Checked) : Type 0 where
+  pub one : (at : ℕ) → Refused-with a 1 at ↔ Cut s at
+  pub two : (at : ℕ) → Refused-with a 2 at ↔ Misheaded s at
+  pub three : (at : ℕ) → Refused-with a 3 at ↔ Misformed s at
+  pub four : (at : ℕ) → Refused-with a 4 at ↔ ((at ≡ 0) × Whole s × (Between 1 8 (rulesUpTo s (countOf s)) → ⊥))
 
 -- the card is accepted: checks 1 to 4 let it pass
 abbrev pub Policy-passed : List ℕ → Type 0
 Policy-passed s = Whole s × Between 1 8 (rulesUpTo s (countOf s))
 
--- an opening, whose outcome is o: 1 to 5
+-- an opening, whose outcome is o: 1 to 5. "Opening stops after 5"; "an opening answers done, or its refusal"
 pub record Opening-causes (s : List ℕ) (x : State) (o : Outcome) : Type 0 where
-  pub policy : Policy-causes s (o .answer)
-  pub five : (o .answer ≡ Refused BufferSize) ↔ (Policy-passed s × (Sized (policyOf s) x → ⊥))
+  pub policy : Policy-causes s (reply (o .answer))
+  pub five : (at : ℕ) → Refused-with (reply (o .answer)) 5 at ↔ ((at ≡ 0) × Policy-passed s × (Sized (policyOf s) x → ⊥))
+  pub no-other : (n at : ℕ) → Refused-with (reply (o .answer)) n at → (1 ≤ n) × (n ≤ 5)
   pub done : (o .answer ≡ Done) ↔ (Policy-passed s × Sized (policyOf s) x)
   pub unwritten : (r : Refusal) → o .answer ≡ Refused r → o .state ≡ x
 
@@ -109,32 +125,63 @@ pub record Passed (s : List ℕ) (x : State) : Type 0 where
 
 -- a take, whose outcome is o: 1 to 9
 pub record Take-causes (s : List ℕ) (x : State) (b : List ℕ) (o : Outcome) : Type 0 where
-  pub policy : Policy-causes s (o .answer)
-  pub five : (o .answer ≡ Refused BufferSize) ↔ (Policy-passed s × (Sized (policyOf s) x → ⊥))
-  pub six : (o .answer ≡ Refused CorruptKnowledge) ↔ (Policy-passed s × Sized (policyOf s) x × (Sound (sizesOf s) (x .known) → ⊥))
-  pub seven : (at : ℕ) → (o .answer ≡ Refused (TruncatedMessage at)) ↔ (Passed s x × Cut-message b at)
-  pub eight : (o .answer ≡ Refused BadMessage) ↔ (Passed s x × (length b ≡ lengthOf b) × (goodMessage (sizesOf s) b ≡ false))
-  pub nine : (o .answer ≡ Refused Conflict) ↔ (Passed s x × Well-formed (sizesOf s) b × (Some-trace (sizesOf s) (x .known) (meaningOf b) → ⊥))
+  pub policy : Policy-causes s (reply (o .answer))
+  pub five : (at : ℕ) → Refused-with (reply (o .answer)) 5 at ↔ ((at ≡ 0) × Policy-passed s × (Sized (policyOf s) x → ⊥))
+  pub six : (at : ℕ) → Refused-with (reply (o .answer)) 6 at
+      ↔ ((at ≡ 0) × Policy-passed s × Sized (policyOf s) x × (Sound (sizesOf s) (x .known) → ⊥))
+  pub seven : (at : ℕ) → Refused-with (reply (o .answer)) 7 at ↔ (Passed s x × Cut-message b at)
+  pub eight : (at : ℕ) → Refused-with (reply (o .answer)) 8 at
+      ↔ ((at ≡ 0) × Passed s x × (length b ≡ lengthOf b) × (goodMessage (sizesOf s) b ≡ false))
+  pub nine : (at : ℕ) → Refused-with (reply (o .answer)) 9 at
+      ↔ ((at ≡ 0) × Passed s x × Well-formed (sizesOf s) b × (Some-trace (sizesOf s) (x .known) (meaningOf b) → ⊥))
+  pub no-other : (n at : ℕ) → Refused-with (reply (o .answer)) n at → (1 ≤ n) × (n ≤ 9)
   pub taken : Taken (o .answer) ↔ (Passed s x × Well-formed (sizesOf s) b × Some-trace (sizesOf s) (x .known) (meaningOf b))
   pub unwritten : (r : Refusal) → o .answer ≡ Refused r → o .state ≡ x
 
--- a look, whose answer is a: 1 to 5 (the verdict sheet only) and then 10
+-- what a look is lent and asked is of the card
+pub record On-sheet (s verdicts : List ℕ) (rule minute : ℕ) : Type 0 where
+  pub policy : Policy-passed s
+  pub sized : length verdicts ≡ policyOf s .rules * sizesOf s .minutes
+  pub rule-in : rule < policyOf s .rules
+  pub minute-in : minute < sizesOf s .minutes
+
+-- "the code at rule times M + minute"
+abbrev pub code : List ℕ → List ℕ → ℕ → ℕ → ℕ
+code s verdicts rule minute = getD verdicts (rule * sizesOf s .minutes + minute) 0
+
+-- a look, whose answer is a: 1 to 5 (the verdict sheet only) and then 10. "A look gives the code at rule times M + minute of the lent verdict sheet,
+-- other codes than 1 and 2 read as blank"
 pub record Look-causes (s verdicts : List ℕ) (rule minute : ℕ) (a : Look) : Type 0 where
-  pub one : (at : ℕ) → (a ≡ L.Refused (TruncatedPolicy at)) ↔ Cut s at
-  pub two : (at : ℕ) → (a ≡ L.Refused (BadHeading at)) ↔ Misheaded s at
-  pub three : (at : ℕ) → (a ≡ L.Refused (BadSubformula at)) ↔ Misformed s at
-  pub four : (a ≡ L.Refused RuleCount) ↔ (Whole s × (Between 1 8 (rulesUpTo s (countOf s)) → ⊥))
-  pub five : (a ≡ L.Refused BufferSize) ↔ (Policy-passed s × (length verdicts ≡ policyOf s .rules * sizesOf s .minutes → ⊥))
-  pub ten : (a ≡ L.Refused OutOfRange)
-      ↔ (Policy-passed s × (length verdicts ≡ policyOf s .rules * sizesOf s .minutes) × ((rule < policyOf s .rules) × (minute < sizesOf s .minutes) → ⊥))
-  pub shows : (v : Verdict) → (a ≡ L.Shows v)
-      ↔ (Policy-passed s × (length verdicts ≡ policyOf s .rules * sizesOf s .minutes) × (rule < policyOf s .rules) × (minute < sizesOf s .minutes)
-      × (v ≡ verdictOf (getD verdicts (rule * sizesOf s .minutes + minute) 0)))
+  pub policy : Policy-causes s (look-reply a)
+  pub five : (at : ℕ) → Refused-with (look-reply a) 5 at
+      ↔ ((at ≡ 0) × Policy-passed s × (length verdicts ≡ policyOf s .rules * sizesOf s .minutes → ⊥))
+  pub ten : (at : ℕ) → Refused-with (look-reply a) 10 at
+      ↔ ((at ≡ 0) × Policy-passed s × (length verdicts ≡ policyOf s .rules * sizesOf s .minutes)
+      × ((rule < policyOf s .rules) × (minute < sizesOf s .minutes) → ⊥))
+  pub no-other : (n at : ℕ) → Refused-with (look-reply a) n at → ((1 ≤ n) × (n ≤ 5)) ⊎ (n ≡ 10)
+  pub kept : (a ≡ L.Shows Satisfied) ↔ (On-sheet s verdicts rule minute × (code s verdicts rule minute ≡ 1))
+  pub broken : (a ≡ L.Shows Violated) ↔ (On-sheet s verdicts rule minute × (code s verdicts rule minute ≡ 2))
+  pub blank : (a ≡ L.Shows Unknown) ↔ (On-sheet s verdicts rule minute × (code s verdicts rule minute ≢ 1) × (code s verdicts rule minute ≢ 2))
 
 pub record Demand-1 : Type 0 where
+  -- the numbers and places are those of 01's table
+  pub table : Table
   pub opening : (s : List ℕ) (x : State) → Opening-causes s x (open-state s x)
   pub take : (s : List ℕ) (x : State) (b : List ℕ) → Take-causes s x b (receive s x b)
   pub look : (s verdicts : List ℕ) (rule minute : ℕ) → Look-causes s verdicts rule minute (lookupOf s verdicts rule minute)
+
+-- ---- the opening
+
+-- "Opening makes a fresh record: only each first count is known, as 0; no facts; the verdict sheet is blank and the work sheet holds the reading over
+-- that record"
+pub record Opened (p : Policy) (x : State) : Type 0 where
+  pub sized : Sized p x
+  pub first-number : (c : ℕ) → c < p .sizes .components → number (p .sizes) (x .known) c 0 ≡ 0
+  pub other-number : (c q : ℕ) → c < p .sizes .components → 0 < q → q ≤ p .sizes .minutes → number (p .sizes) (x .known) c q ≡ none
+  pub no-fact : (i : ℕ) → getD (x .known .facts) i 0 ≡ 0
+  pub blank : (r t : ℕ) → shown p x r t ≡ 0
+  pub valuation : (l t : ℕ) → l < p .count → t < p .sizes .minutes
+      → getD (x .valuation) (l * p .sizes .minutes + t) 0 ≡ codeOf (value p (x .known) l t)
 
 -- ---- demand 2
 
@@ -146,28 +193,32 @@ pub record Gains (z : Sizes) (k k′ : Knowledge) (m : Message) : Type 0 where
   pub fact-kept : (i t : ℕ) → i < 32 → ((b : Bool) → Fixes-fact (m .event) i t b → ⊥) → (noted k′ i t ≡ noted k i t) × (valued k′ i t ≡ valued k i t)
 
 pub record Demand-2 : Type 0 where
+  pub opening : (s : List ℕ) (x : State) → open-state s x .answer ≡ Done → Opened (policyOf s) (open-state s x .state)
   -- "After every accepted slip the sheet shows .." (Sheets), over the record with what the slip fixes
   pub sheets : (s : List ℕ) (x : State) (b : List ℕ) → Taken (receive s x b .answer) → Sheets (policyOf s) (receive s x b .state)
   pub gains : (s : List ℕ) (x : State) (b : List ℕ) → Taken (receive s x b .answer) → Gains (sizesOf s) (x .known) (receive s x b .state .known) (meaningOf b)
-  -- the verdict total "equals the non-blank cells"
-  pub total : (s : List ℕ) (x : State) (b : List ℕ) (n : ℕ) → receive s x b .answer ≡ Received n → n ≡ standing (receive s x b .state .verdicts)
+  -- "a take also gives how many verdicts stand": the total "equals the non-blank cells"
+  pub total : (s : List ℕ) (x : State) (b : List ℕ) → Taken (receive s x b .answer)
+      → receive s x b .answer ≡ Received (standing (receive s x b .state .verdicts))
   -- "A well-formed slip that no earlier check turns away is refused as a clash exactly when no shift fits the record and the slip"
   pub conflict : (s : List ℕ) (x : State) (b : List ℕ) → Passed s x → Well-formed (sizesOf s) b
       → (receive s x b .answer ≡ Refused Conflict) ↔ (Some-trace (sizesOf s) (x .known) (meaningOf b) → ⊥)
+  -- and some shift fits every sound record
+  pub fits : (z : Sizes) (k : Knowledge) → Sound z k → (w : Trace z) × Agrees z w k
 
 -- ---- demand 3
 
--- the messages that the well-formed members of a list say
-abbrev pub Sends : Sizes → List (List ℕ) → Message → Type 0
-Sends z bs m = (b : List ℕ) × List·Memᴰ b bs × Well-formed z b × (meaningOf b ≡ m)
+-- the messages that the well-formed slips of a list say
+abbrev pub Sends : Sizes → List Call → Message → Type 0
+Sends z cs m = (b : List ℕ) × Offered b cs × Well-formed z b × (meaningOf b ≡ m)
 
 -- in this list a slip is accepted exactly when it is well-formed: "accept all of these and no others"
-abbrev pub All-taken : List ℕ → State → List (List ℕ) → Type 0
-All-taken s x bs = (us : List (List ℕ)) (b : List ℕ) (vs : List (List ℕ)) → bs ≡ us ++ (b ∷ vs)
+abbrev pub All-taken : List ℕ → State → List Call → Type 0
+All-taken s x cs = (us : List Call) (b : List ℕ) (vs : List Call) → cs ≡ us ++ (Receive b ∷ vs)
     → Taken (receive s (after s x us) b .answer) ↔ Well-formed (sizesOf s) b
 
 -- what two lists with the same well-formed slips share
-pub record Same (s : List ℕ) (x y : State) (xs ys : List (List ℕ)) : Type 0 where
+pub record Same (s : List ℕ) (x y : State) (xs ys : List Call) : Type 0 where
   pub left : All-taken s x xs
   pub right : All-taken s y ys
   -- "the same record, work sheet and verdict sheet", in every cell
@@ -181,19 +232,19 @@ pub record Same (s : List ℕ) (x y : State) (xs ys : List (List ℕ)) : Type 0 
 -- the buffers x held before
 pub record Demand-3 : Type 0 where
   -- "a slip is accepted exactly when it is well-formed and some one shift could have sent it and every slip accepted before it"
-  pub accept : (s : List ℕ) (x : State) → open-state s x .answer ≡ Done → (bs : List (List ℕ)) (b : List ℕ)
-      → Taken (receive s (after s x bs) b .answer)
-      ↔ (Well-formed (sizesOf s) b × ((w : Trace (sizesOf s)) × Admits-all (sizesOf s) w (accepted s x bs) × Admits (sizesOf s) w (meaningOf b)))
+  pub accept : (s : List ℕ) (x : State) → open-state s x .answer ≡ Done → (cs : List Call) (b : List ℕ)
+      → Taken (receive s (after s x cs) b .answer)
+      ↔ (Well-formed (sizesOf s) b × ((w : Trace (sizesOf s)) × Admits-all (sizesOf s) w (accepted s x cs) × Admits (sizesOf s) w (meaningOf b)))
   -- "every kept or broken after any beginning of the list stands at its end"
-  pub stand : (s : List ℕ) (x : State) → open-state s x .answer ≡ Done → (bs cs : List (List ℕ)) (r t : ℕ) → r < policyOf s .rules → t < sizesOf s .minutes
-      → shown (policyOf s) (after s x bs) r t ≢ 0 → shown (policyOf s) (after s x (bs ++ cs)) r t ≡ shown (policyOf s) (after s x bs) r t
+  pub stand : (s : List ℕ) (x : State) → open-state s x .answer ≡ Done → (cs ds : List Call) (r t : ℕ) → r < policyOf s .rules → t < sizesOf s .minutes
+      → shown (policyOf s) (after s x cs) r t ≢ 0 → shown (policyOf s) (after s x (cs ++ ds)) r t ≡ shown (policyOf s) (after s x cs) r t
   -- "and is the plain two-valued verdict in every shift that could have sent the slips accepted in that beginning"
-  pub truth : (s : List ℕ) (x : State) → open-state s x .answer ≡ Done → (bs : List (List ℕ)) (r t : ℕ) → r < policyOf s .rules → t < sizesOf s .minutes
-      → shown (policyOf s) (after s x bs) r t ≢ 0 → (w : Trace (sizesOf s)) → Admits-all (sizesOf s) w (accepted s x bs)
-      → Plain (policyOf s) w r t (shown (policyOf s) (after s x bs) r t)
+  pub truth : (s : List ℕ) (x : State) → open-state s x .answer ≡ Done → (cs : List Call) (r t : ℕ) → r < policyOf s .rules → t < sizesOf s .minutes
+      → shown (policyOf s) (after s x cs) r t ≢ 0 → (w : Trace (sizesOf s)) → Admits-all (sizesOf s) w (accepted s x cs)
+      → Plain (policyOf s) w r t (shown (policyOf s) (after s x cs) r t)
   -- "Two such lists with the same well-formed slips (any order, any repeats, anything ill-formed between), all of which some one shift could
   -- have sent, both accept all of these and no others and leave the same record, work sheet and verdict sheet"
-  pub same : (s : List ℕ) (x y : State) → open-state s x .answer ≡ Done → open-state s y .answer ≡ Done → (xs ys : List (List ℕ))
-      → ((b : List ℕ) → Well-formed (sizesOf s) b → List·Memᴰ b xs ↔ List·Memᴰ b ys)
-      → (w : Trace (sizesOf s)) → ((b : List ℕ) → List·Memᴰ b xs → Well-formed (sizesOf s) b → Admits (sizesOf s) w (meaningOf b))
+  pub same : (s : List ℕ) (x y : State) → open-state s x .answer ≡ Done → open-state s y .answer ≡ Done → (xs ys : List Call)
+      → ((b : List ℕ) → Well-formed (sizesOf s) b → Offered b xs ↔ Offered b ys)
+      → (w : Trace (sizesOf s)) → ((b : List ℕ) → Offered b xs → Well-formed (sizesOf s) b → Admits (sizesOf s) w (meaningOf b))
       → Same s x y xs ys

@@ -1,15 +1,16 @@
 -- 01: a look. "A look gives the code at rule times M + minute of the lent verdict sheet, other codes than 1 and 2 read as blank"; "a look
 -- checks 1 to 5 (verdict sheet only) and then 10".
 use Prim.Native.Nat.{ℕ, zero, suc, _+_, _*_}
-use mathlib.Core.Bool.{cond, _&&_}
-use mathlib.Core.List.{List}
+use mathlib.Core.Bool.{_&&_}
+use mathlib.Core.List.{List, [], _∷_, _++_}
 use lib.Dec.{eqb, ltb}
 use lib.ListN.{getD, length}
 use Rattle.refusal.specs.declared.Refusal.the-variants.{BufferSize, OutOfRange}
-use Rattle.policy.specs.declared.Policy.{Policy}
 use Rattle.refusal.specs.declared.Answer.{Answer as Checked}
 use Rattle.refusal.specs.declared.Answer.the-variants as C
-use Rattle.policy.specs.Format.{answerOf as policy-answer, policyOf}
+use Rattle.policy.specs.declared.Policy.{Policy}
+use Rattle.refusal.specs.Checks.{Check, check, first-failed}
+use Rattle.policy.specs.Format.{policy-checks, policyOf}
 use Rattle.monitor.specs.declared.Verdict.{Verdict}
 use Rattle.monitor.specs.declared.Verdict.the-variants.{Unknown, Satisfied, Violated}
 use Rattle.monitor.specs.declared.Look.{Look}
@@ -28,19 +29,28 @@ verdictOf (suc zero) = Satisfied
 verdictOf (suc (suc zero)) = Violated
 verdictOf (suc (suc (suc n))) = Unknown
 
--- 5 for the verdict sheet, and then 10: "rule or minute not on the card"
-unfoldable pub look-at : Policy → List ℕ → ℕ → ℕ → Look
-look-at p verdicts rule minute =
-    cond (eqb (length verdicts) (p .rules * p .sizes .minutes))
-    (cond (ltb rule (p .rules) && ltb minute (p .sizes .minutes))
-    (Shows (verdictOf (getD verdicts (rule * p .sizes .minutes + minute) 0)))
-    (Refused OutOfRange))
-    (Refused BufferSize)
+-- what a look shows, unless one of its checks refuses it
+abbrev pub show-unless : Checked → Verdict → Look
+show-unless C.Accepted v = Shows v
+show-unless (C.Refused r) v = Refused r
+
+module _ (p : Policy) (verdicts : List ℕ) (rule minute : ℕ) where
+  -- 5 for the verdict sheet, and then 10: "rule or minute not on the card"
+  abbrev pub sheet-checks : List Check
+  sheet-checks =
+      check (eqb (length verdicts) (p .rules * p .sizes .minutes)) BufferSize
+      ∷ check (ltb rule (p .rules) && ltb minute (p .sizes .minutes)) OutOfRange
+      ∷ []
+
+  abbrev pub code-at : ℕ
+  code-at = getD verdicts (rule * p .sizes .minutes + minute) 0
+
+  unfoldable pub look-at : Look
+  look-at = show-unless (first-failed sheet-checks) (verdictOf code-at)
 
 -- 1 to 4 first
-abbrev pub after-policy : Checked → Look → Look
-after-policy C.Accepted next = next
-after-policy (C.Refused r) next = Refused r
+abbrev pub look-checks : List ℕ → List ℕ → ℕ → ℕ → List Check
+look-checks s verdicts rule minute = policy-checks s ++ sheet-checks (policyOf s) verdicts rule minute
 
 unfoldable pub lookupOf : List ℕ → List ℕ → ℕ → ℕ → Look
-lookupOf s verdicts rule minute = after-policy (policy-answer s) (look-at (policyOf s) verdicts rule minute)
+lookupOf s verdicts rule minute = show-unless (first-failed (look-checks s verdicts rule minute)) (verdictOf (code-at (policyOf s) verdicts rule minute))

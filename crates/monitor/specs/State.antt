@@ -1,8 +1,8 @@
 -- The state, and what an opening and a take do, as functions of the bytes and the state. The contracts and the demands speak of these.
 use Prim.Native.Nat.{ℕ, suc, _+_, _*_}
 use mathlib.Core.Path.{_≡_}
-use mathlib.Core.Bool.{Bool, true, false, cond, _&&_}
-use mathlib.Core.List.{List, [], _∷_, _++_, map}
+use mathlib.Core.Bool.{Bool, _&&_}
+use mathlib.Core.List.{List, [], _∷_, _++_, List·Memᴰ}
 use lib.Dec.{eqb}
 use lib.ListN.{length, replicate}
 use Rattle.refusal.specs.declared.Refusal.{Refusal}
@@ -10,8 +10,9 @@ use Rattle.refusal.specs.declared.Refusal.the-variants.{BufferSize, CorruptKnow
 use Rattle.policy.specs.declared.Policy.{Policy}
 use Rattle.refusal.specs.declared.Answer.{Answer as Checked}
 use Rattle.refusal.specs.declared.Answer.the-variants as C
-use Rattle.policy.specs.Format.{answerOf as policy-answer, policyOf}
-use Rattle.message.specs.Format.{answerOf as message-answer}
+use Rattle.refusal.specs.Checks.{Check, check, first-failed}
+use Rattle.policy.specs.Format.{policy-checks, policyOf}
+use Rattle.message.specs.Format.{message-checks}
 use Rattle.message.specs.Fixes.{Message, meaningOf}
 use Rattle.knowledge.specs.Knowledge.{Knowledge, sound, fresh, stored, admits}
 use Rattle.valuation.specs.Sheets.{valuation-of, verdicts-of, standing}
@@ -40,18 +41,10 @@ pub record Outcome : Type 0 where
 abbrev pub outcome : Answer → List ℕ → List ℕ → List ℕ → List ℕ → Outcome
 outcome a numbers facts valuation verdicts = record { answer = a; state = lent numbers facts valuation verdicts }
 
--- "A refusal gives number and place and writes nothing"
-abbrev pub refused : State → Refusal → Outcome
-refused x r = record { answer = Refused r; state = x }
-
--- one check after another: refused where it fails, and else what comes next
-abbrev pub guard : Bool → Refusal → State → Outcome → Outcome
-guard passed r x next = cond passed next (refused x r)
-
--- what a reader answered: refused, or what comes next
-abbrev pub afterwards : Checked → State → Outcome → Outcome
-afterwards C.Accepted x next = next
-afterwards (C.Refused r) x next = refused x r
+-- "A refusal gives number and place and writes nothing": what a call does, unless one of its checks refuses it
+abbrev pub unless : Checked → State → Outcome → Outcome
+unless C.Accepted x done = done
+unless (C.Refused r) x done = record { answer = Refused r; state = x }
 
 module _ (p : Policy) where
   -- "Four lent buffers of exact size"
@@ -85,40 +78,54 @@ module _ (p : Policy) where
   over k = record { known = k; valuation = valuation-of p k; verdicts = verdicts-of p k }
 
   -- "An accepted slip makes known in the record all that it fixes"; both sheets "are rewritten whole"; "a take also gives how many
-  -- verdicts stand". 9 where no shift fits record and slip
-  abbrev pub settle : State → Message → Bool → Outcome
-  settle x m true = record { answer = Received (standing (verdicts-of p (stored (p .sizes) (x .known) m))); state = over (stored (p .sizes) (x .known) m) }
-  settle x m false = refused x Conflict
+  -- verdicts stand"
+  abbrev pub rewritten : Knowledge → Outcome
+  rewritten k = record { answer = Received (standing (verdicts-of p k)); state = over k }
 
-  -- 7 and 8, then 9
+  abbrev pub settled : State → Message → Outcome
+  settled x m = rewritten (stored (p .sizes) (x .known) m)
+
+  -- 7 and 8, then 9: "no shift fits record and slip"
+  abbrev pub slip-checks : State → List ℕ → List Check
+  slip-checks x b = message-checks (p .sizes) b ++ (check (admits (p .sizes) (x .known) (meaningOf b)) Conflict ∷ [])
+
   abbrev pub take-message : State → List ℕ → Outcome
-  take-message x b = afterwards (message-answer (p .sizes) b) x (settle x (meaningOf b) (admits (p .sizes) (x .known) (meaningOf b)))
+  take-message x b = unless (first-failed (slip-checks x b)) x (settled x (meaningOf b))
 
--- s are the bytes of the card. "Opening stops after 5"
+-- ---- the calls, each with its checks in 01's order; s are the bytes of the card
+
+-- 1 to 4, then 5, from the buffers' lengths: every call that is lent a state starts with these
+abbrev pub size-checks : List ℕ → ℕ → ℕ → ℕ → ℕ → List Check
+size-checks s numbers facts valuation verdicts = policy-checks s ++ (check (sizes-fit (policyOf s) numbers facts valuation verdicts) BufferSize ∷ [])
+
+-- "A call that is lent a record checks 1 to 6 as a take does"
+abbrev pub record-checks : List ℕ → Knowledge → ℕ → ℕ → List Check
+record-checks s k valuation verdicts =
+    size-checks s (length (k .numbers)) (length (k .facts)) valuation verdicts
+    ++ (check (sound (policyOf s .sizes) k) CorruptKnowledge ∷ [])
+
+-- "Opening stops after 5"
+abbrev pub opening-checks : List ℕ → State → List Check
+opening-checks s x = size-checks s (length (x .known .numbers)) (length (x .known .facts)) (length (x .valuation)) (length (x .verdicts))
+
 unfoldable pub open-state : List ℕ → State → Outcome
-open-state s x =
-    afterwards (policy-answer s) x
-    (guard (sized (policyOf s) x) BufferSize x
-    (record { answer = Done; state = opened (policyOf s) }))
+open-state s x = unless (first-failed (opening-checks s x)) x (record { answer = Done; state = opened (policyOf s) })
 
 -- 1 to 4, "after it 5, 6, 7, 8, 9"
+abbrev pub take-checks : List ℕ → State → List ℕ → List Check
+take-checks s x b = record-checks s (x .known) (length (x .valuation)) (length (x .verdicts)) ++ slip-checks (policyOf s) x b
+
 unfoldable pub receive : List ℕ → State → List ℕ → Outcome
-receive s x b =
-    afterwards (policy-answer s) x
-    (guard (sized (policyOf s) x) BufferSize x
-    (guard (sound (policyOf s .sizes) (x .known)) CorruptKnowledge x
-    (take-message (policyOf s) x b)))
+receive s x b = unless (first-failed (take-checks s x b)) x (settled (policyOf s) x (meaningOf b))
 
 -- ---- lists of calls
 
 pub data Call : Type 0 where
-  -- an opening, and a take that offers a message of any bytes
-  Open : Call
+  -- a take, which offers a message of any bytes
   Receive : List ℕ → Call
 
 -- a call that is lent the card and the state as the last call left it
 abbrev pub step : List ℕ → State → Call → Outcome
-step s x Open = open-state s x
 step s x (Receive b) = receive s x b
 
 abbrev pub run : List ℕ → State → List Call → State
@@ -126,8 +133,8 @@ run s x [] = x
 run s x (c ∷ cs) = run s (step s x c .state) cs
 
 -- "A list of takes starts right after an opening": the state after it, where x are the buffers before the opening
-abbrev pub after : List ℕ → State → List (List ℕ) → State
-after s x bs = run s x (Open ∷ map Receive bs)
+abbrev pub after : List ℕ → State → List Call → State
+after s x cs = run s (open-state s x .state) cs
 
 -- "The slip is accepted if its take isn't refused"
 abbrev pub Taken : Answer → Type 0
@@ -141,10 +148,24 @@ took Done b = []
 took (Received n) b = meaningOf b ∷ []
 took (Refused r) b = []
 
--- the messages that the takes of a list accepted, in order
-abbrev pub accepted-from : List ℕ → State → List (List ℕ) → List Message
-accepted-from s x [] = []
-accepted-from s x (b ∷ bs) = took (receive s x b .answer) b ++ accepted-from s (receive s x b .state) bs
+-- the messages that a call accepts
+abbrev pub accepted-by : List ℕ → State → Call → List Message
+accepted-by s x (Receive b) = took (receive s x b .answer) b
 
-abbrev pub accepted : List ℕ → State → List (List ℕ) → List Message
-accepted s x bs = accepted-from s (open-state s x .state) bs
+-- and those that the calls of a list accept, in order
+abbrev pub accepted-from : List ℕ → State → List Call → List Message
+accepted-from s x [] = []
+accepted-from s x (c ∷ cs) = accepted-by s x c ++ accepted-from s (step s x c .state) cs
+
+abbrev pub accepted : List ℕ → State → List Call → List Message
+accepted s x cs = accepted-from s (open-state s x .state) cs
+
+-- the call offers these bytes as a message
+pub data Offers : Call → List ℕ → Type 0 where
+  by-take : (b : List ℕ) → Offers (Receive b) b
+
+-- some call of the list does
+pub record Offered (b : List ℕ) (cs : List Call) : Type 0 where
+  pub call : Call
+  pub is-call : List·Memᴰ call cs
+  pub offers : Offers call b

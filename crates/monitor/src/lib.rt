@@ -1,5 +1,6 @@
 // The calls over a lent state: open, receive and lookup. What is demanded of them stands in specs/Demands.antt.
 use message::Event;
+use policy::Decoded;
 use policy::Policy;
 use refusal::Refusal;
 ghost use mathlib.Core.Path.{_≡_};
@@ -12,7 +13,8 @@ ghost use Rattle.policy.specs.Proper.{Proper};
 ghost use Rattle.message.specs.Fixes.{Fits};
 ghost use Rattle.knowledge.specs.Knowledge.{none, Sound, admits};
 ghost use Rattle.knowledge.specs.Run.{held, sent};
-ghost use Rattle.monitor.specs.State.{lent, outcome, Sized, sizes-fit, opened, settle, take-message, open-state, receive};
+ghost use Rattle.monitor.specs.State.{lent, outcome, Sized, sizes-fit, opened, rewritten, settled, take-message, size-checks, record-checks, open-state, receive};
+ghost use Rattle.monitor.specs.Checked.{Checks};
 ghost use Rattle.monitor.specs.Lookup.{verdictOf, look-at, lookupOf};
 
 // What a call answers: an opening is done; a message is received, and so many verdicts stand; or the call is refused.
@@ -47,6 +49,7 @@ fn verdict_of(code: u8) -> Verdict
     Verdict::Unknown
 }
 
+// The verdict of a rule at a minute, under a policy that was read.
 fn verdict_at(policy: Policy, verdicts: &[u8], rule: usize, minute: usize) -> Look
     requires { ⌜ Proper policy ⌝ }
     ensures { λ r. ⌜ r ≡ look-at policy (now (verdicts .entry)) rule minute ⌝ }
@@ -100,11 +103,66 @@ fn fit(policy: Policy, numbers: usize, facts: usize, valuation: usize, verdicts:
     verdicts == policy.rules * minutes
 }
 
+// Reads the policy and checks the sizes of the lent buffers: 1 to 5, with which every call that is lent a state starts.
+fn check_sizes(
+    policy: &[u8],
+    numbers: usize,
+    facts: usize,
+    valuation: usize,
+    verdicts: usize,
+) -> Decoded
+    ensures { λ r. ⌜ Checks (size-checks (now (policy .entry)) numbers facts valuation verdicts) (now (policy .entry)) r ⌝ }
+{
+    let decoded = policy::decode(policy);
+    let answer = decoded.answer;
+    match answer {
+        refusal::Answer::Refused(_) => decoded,
+        refusal::Answer::Accepted => {
+            let p = decoded.policy;
+            if !fit(p, numbers, facts, valuation, verdicts) {
+                return Decoded {
+                    answer: refusal::Answer::Refused(Refusal::BufferSize),
+                    policy: p,
+                };
+            }
+            decoded
+        }
+    }
+}
+
+// And then that the lent record is sound: 1 to 6, with which every call that is lent a record starts.
+fn check_record(
+    policy: &[u8],
+    numbers: &[u16],
+    facts: &[u32],
+    valuation: usize,
+    verdicts: usize,
+) -> Decoded
+    ensures { λ r. ⌜ Checks (record-checks (now (policy .entry)) (held (now (numbers .entry)) (now (facts .entry))) valuation verdicts) (now (policy .entry)) r ⌝ }
+{
+    let checked = check_sizes(policy, numbers.len(), facts.len(), valuation, verdicts);
+    let answer = checked.answer;
+    match answer {
+        refusal::Answer::Refused(_) => checked,
+        refusal::Answer::Accepted => {
+            let p = checked.policy;
+            let sizes = p.sizes;
+            if !knowledge::is_sound(sizes, numbers, facts) {
+                return Decoded {
+                    answer: refusal::Answer::Refused(Refusal::CorruptKnowledge),
+                    policy: p,
+                };
+            }
+            checked
+        }
+    }
+}
+
 // A fresh sequence number: at the first place of a run it is 0, and else not known.
 fn fresh_number(place: usize) -> u16
     ensures { λ r. ⌜ r ≡ cond (eqb place 0) 0 none ⌝ }
 {
-    if place == 0 { 0 } else { 65535 }
+    if place == 0 { 0 } else { knowledge::NONE }
 }
 
 fn clear_numbers(numbers: &mut [u16], minutes: usize)
@@ -128,17 +186,24 @@ fn clear_facts(facts: &mut [u32])
     }
 }
 
-fn clear_verdicts(verdicts: &mut [u8])
-    ensures { λ _. ⌜ now (verdicts .exit) ≡ replicate (length (now (verdicts .entry))) 0 ⌝ }
+// Rewrites both sheets whole from the record; answers how many verdicts stand.
+fn rewrite_sheets(
+    policy: Policy,
+    numbers: &[u16],
+    facts: &[u32],
+    valuation: &mut [u8],
+    verdicts: &mut [u8],
+) -> usize
+    requires { ⌜ (Proper policy) × Sized policy (lent (now numbers) (now facts) (now valuation) (now verdicts)) × Sound (policy .sizes) (held (now numbers) (now facts)) ⌝ }
+    ensures { λ r. ⌜ outcome (Answer.Received r) (now (numbers .entry)) (now (facts .entry)) (now (valuation .exit)) (now (verdicts .exit)) ≡ rewritten policy (held (now (numbers .entry)) (now (facts .entry))) ⌝ }
 {
-    let mut i = 0;
-    while i < verdicts.len() {
-        verdicts[i] = 0;
-        i += 1;
-    }
+    let sizes = policy.sizes;
+    let points = knowledge::point_row(sizes, numbers);
+    valuation::evaluate(policy, &points, facts, valuation);
+    valuation::conclude(policy, &points, valuation, verdicts)
 }
 
-// Makes the fresh record, the reading over it and a blank verdict sheet.
+// Makes the fresh record and rewrites both sheets from it: the verdict sheet is then blank.
 fn refresh(
     policy: Policy,
     numbers: &mut [u16],
@@ -152,9 +217,7 @@ fn refresh(
     let sizes = policy.sizes;
     clear_numbers(numbers, sizes.minutes);
     clear_facts(facts);
-    clear_verdicts(verdicts);
-    let points = knowledge::point_row(sizes, numbers);
-    valuation::evaluate(policy, &points, facts, valuation);
+    rewrite_sheets(policy, numbers, facts, valuation, verdicts);
 }
 
 // Opens the lent state under a policy (01: an opening), whatever the buffers held.
@@ -167,28 +230,25 @@ pub fn open(
 ) -> Answer
     ensures { λ r. ⌜ outcome r (now (numbers .exit)) (now (facts .exit)) (now (valuation .exit)) (now (verdicts .exit)) ≡ open-state (now (policy .entry)) (lent (now (numbers .entry)) (now (facts .entry)) (now (valuation .entry)) (now (verdicts .entry))) ⌝ }
 {
-    let decoded = policy::decode(policy);
-    let answer = decoded.answer;
+    let checked = check_sizes(
+        policy,
+        numbers.len(),
+        facts.len(),
+        valuation.len(),
+        verdicts.len(),
+    );
+    let answer = checked.answer;
     match answer {
         refusal::Answer::Refused(r) => Answer::Refused(r),
         refusal::Answer::Accepted => {
-            let p = decoded.policy;
-            if !fit(
-                p,
-                numbers.len(),
-                facts.len(),
-                valuation.len(),
-                verdicts.len(),
-            ) {
-                return Answer::Refused(Refusal::BufferSize);
-            }
+            let p = checked.policy;
             refresh(p, numbers, facts, valuation, verdicts);
             Answer::Done
         }
     }
 }
 
-// Stores a message and rewrites both sheets whole; answers how many verdicts stand.
+// Stores a message and rewrites both sheets; answers how many verdicts stand.
 fn settle_message(
     policy: Policy,
     component: usize,
@@ -199,13 +259,11 @@ fn settle_message(
     verdicts: &mut [u8],
 ) -> usize
     requires { ⌜ (Proper policy) × Sized policy (lent (now numbers) (now facts) (now valuation) (now verdicts)) × Fits (policy .sizes) (sent component event) × (admits (policy .sizes) (held (now numbers) (now facts)) (sent component event) ≡ true) ⌝ }
-    ensures { λ r. ⌜ outcome (Answer.Received r) (now (numbers .exit)) (now (facts .exit)) (now (valuation .exit)) (now (verdicts .exit)) ≡ settle policy (lent (now (numbers .entry)) (now (facts .entry)) (now (valuation .entry)) (now (verdicts .entry))) (sent component event) true ⌝ }
+    ensures { λ r. ⌜ outcome (Answer.Received r) (now (numbers .exit)) (now (facts .exit)) (now (valuation .exit)) (now (verdicts .exit)) ≡ settled policy (lent (now (numbers .entry)) (now (facts .entry)) (now (valuation .entry)) (now (verdicts .entry))) (sent component event) ⌝ }
 {
     let sizes = policy.sizes;
     knowledge::store(sizes, numbers, facts, component, event);
-    let points = knowledge::point_row(sizes, numbers);
-    valuation::evaluate(policy, &points, facts, valuation);
-    valuation::conclude(policy, &points, valuation, verdicts)
+    rewrite_sheets(policy, numbers, facts, valuation, verdicts)
 }
 
 // Takes a message that its checks let pass, or refuses it.
@@ -256,25 +314,12 @@ pub fn receive(
 ) -> Answer
     ensures { λ r. ⌜ outcome r (now (numbers .exit)) (now (facts .exit)) (now (valuation .exit)) (now (verdicts .exit)) ≡ receive (now (policy .entry)) (lent (now (numbers .entry)) (now (facts .entry)) (now (valuation .entry)) (now (verdicts .entry))) (now (message .entry)) ⌝ }
 {
-    let decoded = policy::decode(policy);
-    let answer = decoded.answer;
+    let checked = check_record(policy, numbers, facts, valuation.len(), verdicts.len());
+    let answer = checked.answer;
     match answer {
         refusal::Answer::Refused(r) => Answer::Refused(r),
         refusal::Answer::Accepted => {
-            let p = decoded.policy;
-            if !fit(
-                p,
-                numbers.len(),
-                facts.len(),
-                valuation.len(),
-                verdicts.len(),
-            ) {
-                return Answer::Refused(Refusal::BufferSize);
-            }
-            let sizes = p.sizes;
-            if !knowledge::is_sound(sizes, numbers, facts) {
-                return Answer::Refused(Refusal::CorruptKnowledge);
-            }
+            let p = checked.policy;
             take_message(p, message, numbers, facts, valuation, verdicts)
         }
     }

@@ -1,10 +1,12 @@
 -- 01, "Order": the checks of a call, or of a reader, stand in one list, in 01's order; the answer is that of the first that fails.
+use Prim.Native.Nat.{ℕ}
 use mathlib.Core.Path.{_≡_}
 use mathlib.Core.Bool.{Bool, true, false, cond}
 use mathlib.Core.List.{List, [], _∷_}
 use Rattle.refusal.specs.declared.Refusal.{Refusal}
 use Rattle.refusal.specs.declared.Answer.{Answer}
 use Rattle.refusal.specs.declared.Answer.the-variants.{Accepted, Refused}
+use Rattle.refusal.specs.Numbers.{numberOf, placeOf}
 
 -- a test, and the refusal where it fails
 pub record Check : Type 0 where
@@ -35,3 +37,10 @@ pub data Passed : List Check → Type 0 where
 pub data Refuses : List Check → Refusal → Type 0 where
   here : {c : Check} {cs : List Check} → c .passed ≡ false → Refuses (c ∷ cs) (c .refusal)
   there : {c : Check} {cs : List Check} {r : Refusal} → c .passed ≡ true → Refuses cs r → Refuses (c ∷ cs) r
+
+-- the answer is a refusal with this number and place of 01's table
+pub record Refused-with (a : Answer) (n at : ℕ) : Type 0 where
+  pub refusal : Refusal
+  pub is : a ≡ Refused refusal
+  pub number : numberOf refusal ≡ n
+  pub place : placeOf refusal ≡ at

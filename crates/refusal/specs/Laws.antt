@@ -2,7 +2,7 @@
 -- none fails.
 use Prim.Native.Nat.{ℕ}
 use native.Mathlib.Omega.{arith}
-use mathlib.Core.Path.{_≡_, refl, sym, ap, subst, _∙_}
+use mathlib.Core.Path.{_≡_, refl, sym, ap, ap₂, subst, _∙_}
 use mathlib.Core.Bool.{Bool, true, false, cond, _||_, or-true, true≢false}
 use mathlib.Core.Logic.{_↔_, _⊎_, inl, inr}
 use mathlib.Core.List.{List, [], _∷_, _++_}
@@ -11,8 +11,8 @@ use borrow.Author.Tests.{eq-eqb}
 use Rattle.refusal.specs.declared.Refusal.{Refusal}
 use Rattle.refusal.specs.declared.Answer.{Answer}
 use Rattle.refusal.specs.declared.Answer.the-variants.{Accepted, Refused}
-use Rattle.refusal.specs.Numbers.{numberOf}
-use Rattle.refusal.specs.Checks.{Check, first-failed, and-then, Passed, none, pass, Refuses, here, there}
+use Rattle.refusal.specs.Numbers.{numberOf, placeOf, refusal-of, only-one}
+use Rattle.refusal.specs.Checks.{Check, first-failed, and-then, Passed, none, pass, Refuses, here, there, Refused-with}
 
 pub not-accepted : (r : Refusal) → Refused r ≡ Accepted → ⊥
 not-accepted r e = let z : _≡_ {A = ℕ} 0 1 = cc in omega arith
@@ -98,3 +98,43 @@ numbered (c ∷ cs) n = eqb (numberOf (c .refusal)) n || numbered cs n
 pub its-number : {cs : List Check} {r : Refusal} → Refuses cs r → numbered cs (numberOf r) ≡ true
 its-number {cs = c ∷ cs} (here p) = rw (eq-eqb (numberOf (c .refusal)) (numberOf (c .refusal)) refl)
 its-number {cs = c ∷ cs} {r = r} (there p q) = rw (its-number q) (or-true (eqb (numberOf (c .refusal)) (numberOf r)))
+
+-- a refusal that no later check gives, and one that no earlier check gives
+pub refused-before : (xs ys : List Check) (r : Refusal) → (Refuses ys r → ⊥) → Refuses (xs ++ ys) r ↔ Refuses xs r
+refused-before xs ys r n = (λ q. go (refused-where xs ys r q), refused-first xs ys r)
+  where
+    go : Refuses xs r ⊎ (Passed xs × Refuses ys r) → Refuses xs r
+    go (inl q) = q
+    go (inr q) = absurd (n (q .1))
+
+pub refused-after : (xs ys : List Check) (r : Refusal) → (Refuses xs r → ⊥) → Refuses (xs ++ ys) r ↔ (Passed xs × Refuses ys r)
+refused-after xs ys r n = (λ q. go (refused-where xs ys r q), λ q. refused-later xs ys r (q .0) (q .1))
+  where
+    go : Refuses xs r ⊎ (Passed xs × Refuses ys r) → Passed xs × Refuses ys r
+    go (inl q) = absurd (n q)
+    go (inr q) = q
+
+-- a list without the number does not give the refusal
+pub other-number : {cs : List Check} {r : Refusal} → numbered cs (numberOf r) ≡ false → Refuses cs r → ⊥
+other-number e q = true≢false (sym (its-number q) ∙ e)
+
+-- ---- answers by number and place
+
+pub the-refusal : {a : Answer} {n at : ℕ} (w : Refused-with a n at) → w .refusal ≡ refusal-of n at
+the-refusal w = sym (only-one (w .refusal)) ∙ ap₂ refusal-of (w .number) (w .place)
+
+-- a list is refused with a number and place exactly when it gives the refusal that has them
+pub number-law : (cs : List Check) (n at : ℕ)
+    → Refused-with (first-failed cs) n at ↔ (Refuses cs (refusal-of n at) × (numberOf (refusal-of n at) ≡ n) × (placeOf (refusal-of n at) ≡ at))
+number-law cs n at = (there, back)
+  where
+    there : Refused-with (first-failed cs) n at → Refuses cs (refusal-of n at) × (numberOf (refusal-of n at) ≡ n) × (placeOf (refusal-of n at) ≡ at)
+    there w =
+        let e = the-refusal w in (
+          refused-by cs (refusal-of n at) (w .is ∙ ap Refused e),
+          ap numberOf (sym e) ∙ w .number,
+          ap placeOf (sym e) ∙ w .place,
+        )
+
+    back : Refuses cs (refusal-of n at) × (numberOf (refusal-of n at) ≡ n) × (placeOf (refusal-of n at) ≡ at) → Refused-with (first-failed cs) n at
+    back q = record { refusal = refusal-of n at; is = refuses-with (q .0); number = q .1; place = q .2 }

@@ -1,16 +1,14 @@
--- The fresh record is sound, so the row of time points tells of it, and the work sheet is the reading over it.
+-- The fresh record is sound, and the sheets over it are those of an opened state.
 -- Assumes nothing.
-use Rattle.monitor.proofs.Settling.{fresh-row, refreshed}
+use Rattle.monitor.proofs.Settling.{fresh-needs, refreshed}
 use borrow.Author.Needs.{needs}
 use Rattle.monitor.proofs.refresh.Statement.{statement}
 use Rattle.monitor.proofs.refresh.Tie as tie
 use Rattle.monitor.proofs.refresh.Reads as reads
 use Rattle.monitor.proofs.refresh.Lts as lts
-use Rattle.knowledge.proofs.point_row.Reads as point-row-reads
 use Rattle.monitor.proofs.clear_facts.Reads as clear-facts-reads
 use Rattle.monitor.proofs.clear_numbers.Reads as clear-numbers-reads
-use Rattle.monitor.proofs.clear_verdicts.Reads as clear-verdicts-reads
-use Rattle.valuation.proofs.evaluate.Reads as evaluate-reads
+use Rattle.monitor.proofs.rewrite_sheets.Reads as rewrite-sheets-reads
 
 clear-numbers-requires : tie.Need-clear-numbers-requires
 clear-numbers-requires c κs = search needs
@@ -18,17 +16,12 @@ clear-numbers-requires c κs = search needs
 clear-facts-requires : tie.Need-clear-facts-requires
 clear-facts-requires c κs = search needs
 
-clear-verdicts-requires : tie.Need-clear-verdicts-requires
-clear-verdicts-requires c κs = search needs
-
-point-row-requires : tie.Need-point-row-requires
-point-row-requires c κs =
-    let s = c .before .before .before .before .before .before .before .before .before .before .before .before .before .before .before .before .before .before in
+rewrite-sheets-requires : tie.Need-rewrite-sheets-requires
+rewrite-sheets-requires c κs =
+    let s = c .before .before .before .before .before .before .before .before .before .before .before .before .before .before .before .before .before in
     let a = s .args in
-    fresh-row (a .policy) (s .pre .0) (a .numbers .now) (a .facts .now) (a .valuation .now) (a .verdicts .now) (s .pre .1) _ (c .before .before .before .before .before .before .before .before .before .before .before .clear-numbers .ensures)
-
-evaluate-requires : tie.Need-evaluate-requires
-evaluate-requires c κs = search needs
+    let n = fresh-needs (a .policy) (a .numbers .now) (a .facts .now) (a .valuation .now) (a .verdicts .now) (s .pre .1) _ _ (c .before .before .before .before .before .before .before .before .before .before .clear-numbers .ensures) (c .before .before .before .before .before .before .clear-facts .ensures) in
+    (s .pre .0, n .0, n .1)
 
 same-length : tie.Need-same-length
 same-length c = search needs
@@ -44,10 +37,9 @@ same-length-4 c = search needs
 
 returns : tie.Need-returns
 returns c =
-    let s = c .before .before .before .before .before .before .before .before .before .before .before .before .before .before .before .before .before .before .before .before .before .before .before .before .before in
+    let s = c .before .before .before .before .before .before .before .before .before .before .before .before .before .before .before .before .before .before .before .before .before .before in
     let a = s .args in
-    refreshed (a .policy) (s .pre .0) (a .numbers .now) (a .facts .now) (a .valuation .now) (a .verdicts .now) (s .pre .1)
-    _ _ _ _ _ (c .before .before .before .before .before .before .before .before .before .before .before .before .before .before .before .before .before .before .clear-numbers .ensures) (c .before .before .before .before .before .before .before .before .before .before .before .before .before .before .clear-facts .ensures) (c .before .before .before .before .before .before .before .before .before .before .clear-verdicts .ensures) (c .before .before .before .before .before .before .point-row .ensures) (c .before .before .evaluate .ensures)
+    refreshed (a .policy) (a .numbers .now) (a .facts .now) (a .valuation .now) (a .verdicts .now) (s .pre .1) _ _ (c .before .before .before .before .before .before .before .before .before .before .before .before .before .before .before .clear-numbers .ensures) (c .before .before .before .before .before .before .before .before .before .before .before .clear-facts .ensures) _ _ _ (c .before .before .before .before .rewrite-sheets .ensures)
 
 pub refresh-spec : {M : Type 1} → statement M
 refresh-spec =
@@ -55,9 +47,7 @@ refresh-spec =
     (tie.spec
     clear-numbers-requires
     clear-facts-requires
-    clear-verdicts-requires
-    point-row-requires
-    evaluate-requires
+    rewrite-sheets-requires
     same-length
     same-length-2
     same-length-3
