@@ -1,16 +1,23 @@
-/* The calls of the proved runtime monitor for C, on x86-64: link libmonitor_c.a, which `rt staticlib monitor_c` writes.
+/* The calls of the proved runtime monitor for C, on x86-64 Linux: link libmonitor_c.a, which `rt staticlib monitor_c` writes.
 
    A call gives 0, or the number of its refusal, and writes *detail: the place of a refusal (0 where it has none), how many
    verdicts stand after zankezurt_receive, the verdict that zankezurt_lookup shows, 0 after zankezurt_open. Nothing is asked of
    what the bytes and buffers hold, nor of their lengths, and a refused call changes no buffer.
 
-   What C itself asks of a caller: each pointer points to as many elements as its length says and is not NULL, even where the length
-   is 0; no two buffers that a call writes overlap, nor do they overlap what it reads or *detail. */
+   What C itself asks of a caller: each pointer is aligned for its type and points to as many elements as its length says; a policy
+   or message of length 0 may be NULL, a buffer and detail may not; no two buffers that a call writes overlap, nor do they overlap
+   what it reads or *detail. No pointer is kept after a call. docs/EMBEDDING.md has stack, time, threads and power cuts. */
 #ifndef ZANKEZURT_H
 #define ZANKEZURT_H
 
 #include <stddef.h>
 #include <stdint.h>
+
+/* The version of this header; zankezurt_version tells that of the archive. */
+#define ZANKEZURT_VERSION_MAJOR 0
+#define ZANKEZURT_VERSION_MINOR 1
+#define ZANKEZURT_VERSION_PATCH 0
+#define ZANKEZURT_VERSION (10000 * ZANKEZURT_VERSION_MAJOR + 100 * ZANKEZURT_VERSION_MINOR + ZANKEZURT_VERSION_PATCH)
 
 #ifdef __cplusplus
 extern "C" {
@@ -66,6 +73,54 @@ uint8_t zankezurt_lookup(const uint8_t *policy, size_t policy_length,
                          const uint8_t *verdicts, size_t verdicts_length,
                          size_t rule, size_t minute,
                          size_t *detail);
+
+/* The version of the archive that is linked, counted as ZANKEZURT_VERSION is. */
+uint32_t zankezurt_version(void);
+
+/* The archive is compiled from a language whose slices are never NULL, not even empty ones, and its compiler may rely on that.
+   So from C the three names stand for the functions below, which put an address of their own where a policy or message is empty. */
+static inline const uint8_t *zankezurt_bytes(const uint8_t *bytes, size_t length)
+{
+    static const uint8_t none = 0;
+    return length == 0 ? &none : bytes;
+}
+
+static inline uint8_t zankezurt_open_bytes(const uint8_t *policy, size_t policy_length,
+                                           uint16_t *numbers, size_t numbers_length,
+                                           uint32_t *facts, size_t facts_length,
+                                           uint8_t *valuation, size_t valuation_length,
+                                           uint8_t *verdicts, size_t verdicts_length,
+                                           size_t *detail)
+{
+    return zankezurt_open(zankezurt_bytes(policy, policy_length), policy_length, numbers, numbers_length,
+                          facts, facts_length, valuation, valuation_length, verdicts, verdicts_length, detail);
+}
+
+static inline uint8_t zankezurt_receive_bytes(const uint8_t *policy, size_t policy_length,
+                                              const uint8_t *message, size_t message_length,
+                                              uint16_t *numbers, size_t numbers_length,
+                                              uint32_t *facts, size_t facts_length,
+                                              uint8_t *valuation, size_t valuation_length,
+                                              uint8_t *verdicts, size_t verdicts_length,
+                                              size_t *detail)
+{
+    return zankezurt_receive(zankezurt_bytes(policy, policy_length), policy_length,
+                             zankezurt_bytes(message, message_length), message_length, numbers, numbers_length,
+                             facts, facts_length, valuation, valuation_length, verdicts, verdicts_length, detail);
+}
+
+static inline uint8_t zankezurt_lookup_bytes(const uint8_t *policy, size_t policy_length,
+                                             const uint8_t *verdicts, size_t verdicts_length,
+                                             size_t rule, size_t minute,
+                                             size_t *detail)
+{
+    return zankezurt_lookup(zankezurt_bytes(policy, policy_length), policy_length,
+                            verdicts, verdicts_length, rule, minute, detail);
+}
+
+#define zankezurt_open zankezurt_open_bytes
+#define zankezurt_receive zankezurt_receive_bytes
+#define zankezurt_lookup zankezurt_lookup_bytes
 
 #ifdef __cplusplus
 }
