@@ -77,8 +77,9 @@ uint8_t zankezurt_lookup(const uint8_t *policy, size_t policy_length,
 /* The version of the archive that is linked, counted as ZANKEZURT_VERSION is. */
 uint32_t zankezurt_version(void);
 
-/* The archive is compiled from a language whose slices are never NULL, not even empty ones, and its compiler may rely on that.
-   So from C the three names stand for the functions below, which put an address of their own where a policy or message is empty. */
+/* Nothing is promised of the archive's functions where a pointer is NULL, not even with a length of 0: the language that they are
+   compiled from has no such slice. So in C the three names stand for the functions below, which put an address of their own in the
+   place of an empty policy or message. */
 static inline const uint8_t *zankezurt_bytes(const uint8_t *bytes, size_t length)
 {
     static const uint8_t none = 0;

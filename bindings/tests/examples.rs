@@ -2,7 +2,7 @@
 
 mod common;
 
-use common::{build_c, example, text};
+use common::{build_program, example, text};
 use std::path::Path;
 use std::process::Command;
 
@@ -14,7 +14,7 @@ fn assert_prints_the_small_shift(program: &Path) {
 
 #[test]
 fn the_example_in_c() {
-    assert_prints_the_small_shift(&build_c("examples/small_shift.c", "small_shift_c"));
+    assert_prints_the_small_shift(&build_program("examples/small_shift.c", "small_shift_c"));
 }
 
 #[test]

@@ -2,7 +2,7 @@
 
 mod common;
 
-use common::{build_c, text};
+use common::{build_program, text};
 use std::process::Command;
 use zankezurt::{version, Reason, VERSION};
 
@@ -46,7 +46,7 @@ fn the_archive_is_of_the_bindings_version() {
 /// The header's version, the archive's, and calls with empty and NULL bytes, from C; it stops at the first that is wrong.
 #[test]
 fn the_calls_from_c() {
-    let said = Command::new(build_c("bindings/tests/calls.c", "calls")).output().unwrap();
+    let said = Command::new(build_program("bindings/tests/calls.c", "calls")).output().unwrap();
     assert!(said.status.success(), "{}", String::from_utf8_lossy(&said.stderr));
     assert_eq!(String::from_utf8(said.stdout).unwrap(), format!("version {VERSION}\n"));
 }

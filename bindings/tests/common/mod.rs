@@ -1,6 +1,7 @@
 //! Where things stand in the repository, and how C is compiled.
 #![allow(dead_code)] // each test uses some of it
 
+use std::ffi::OsStr;
 use std::path::{Path, PathBuf};
 use std::process::Command;
 use std::{env, fs};
@@ -24,19 +25,24 @@ fn archive() -> PathBuf {
     folder.join("libmonitor_c.a")
 }
 
-/// The C compiler, strict, with the header's folder.
-fn compiler() -> Command {
+/// What the C compiler, strict and with the header's folder, makes of a source; the words follow the source.
+fn compile(source: &str, words: &[&OsStr], name: &str) -> PathBuf {
+    let built = scratch(name);
     let mut compiler = Command::new("cc");
     compiler.args(["-std=c99", "-pedantic", "-Wall", "-Wextra", "-Werror", "-I"]).arg(root().join("include"));
-    compiler
+    compiler.arg(root().join(source)).args(words).arg("-o").arg(&built);
+    assert!(compiler.status().unwrap().success());
+    built
 }
 
 /// A program in C, linked with the archive.
-pub fn build_c(source: &str, name: &str) -> PathBuf {
-    let program = scratch(name);
-    let built = compiler().arg(root().join(source)).arg(archive()).arg("-o").arg(&program).status().unwrap();
-    assert!(built.success());
-    program
+pub fn build_program(source: &str, name: &str) -> PathBuf {
+    compile(source, &[archive().as_os_str()], name)
+}
+
+/// A shared object in C, for LD_PRELOAD.
+pub fn build_shared(source: &str, name: &str) -> PathBuf {
+    compile(source, &["-shared".as_ref(), "-fPIC".as_ref()], name)
 }
 
 /// An example in Rust: Cargo builds them before the tests, in the folder beside theirs.
