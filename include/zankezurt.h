@@ -51,6 +51,20 @@ enum zankezurt_verdict {
 #define ZANKEZURT_VALUATION_LENGTH(subformulas, minutes) ((size_t)(subformulas) * (size_t)(minutes))
 #define ZANKEZURT_VERDICTS_LENGTH(rules, minutes) ((size_t)(rules) * (size_t)(minutes))
 
+/* The type of a state, four buffers of their exact lengths, where the sizes of the policy are constants. */
+#define ZANKEZURT_STATE(components, minutes, subformulas, rules)                                                                 \
+    struct {                                                                                                                     \
+        uint16_t numbers[ZANKEZURT_NUMBERS_LENGTH(components, minutes)];                                                         \
+        uint32_t facts[ZANKEZURT_FACTS_LENGTH(minutes)];                                                                         \
+        uint8_t valuation[ZANKEZURT_VALUATION_LENGTH(subformulas, minutes)];                                                     \
+        uint8_t verdicts[ZANKEZURT_VERDICTS_LENGTH(rules, minutes)];                                                             \
+    }
+
+/* Such a state as zankezurt_open and zankezurt_receive want it: each buffer and its length. */
+#define ZANKEZURT_LENT(state)                                                                                                    \
+    (state).numbers, sizeof (state).numbers / sizeof (uint16_t), (state).facts, sizeof (state).facts / sizeof (uint32_t),        \
+        (state).valuation, sizeof (state).valuation, (state).verdicts, sizeof (state).verdicts
+
 /* Opens the lent state under a policy, whatever the buffers held: nothing is known, and every verdict is blank. */
 uint8_t zankezurt_open(const uint8_t *policy, size_t policy_length,
                        uint16_t *numbers, size_t numbers_length,

@@ -13,13 +13,7 @@ enum { STACK = 1 << 16, PAINT = 0xA5, LONGEST = 5 + 4 * SUBFORMULAS };
 static uint8_t policy[LONGEST];
 static size_t policy_length;
 
-static uint16_t numbers[ZANKEZURT_NUMBERS_LENGTH(COMPONENTS, MINUTES)];
-static uint32_t facts[ZANKEZURT_FACTS_LENGTH(MINUTES)];
-static uint8_t valuation[ZANKEZURT_VALUATION_LENGTH(SUBFORMULAS, MINUTES)];
-static uint8_t verdicts[ZANKEZURT_VERDICTS_LENGTH(RULES, MINUTES)];
-
-static const size_t numbers_length = sizeof numbers / sizeof numbers[0];
-static const size_t facts_length = sizeof facts / sizeof facts[0];
+static ZANKEZURT_STATE(COMPONENTS, MINUTES, SUBFORMULAS, RULES) state;
 
 static uint8_t stack[STACK];
 static ucontext_t here, there;
@@ -52,21 +46,19 @@ static void call_version(void) { detail = zankezurt_version(); }
 
 static void call_open(void)
 {
-    refusal = zankezurt_open(policy, policy_length, numbers, numbers_length, facts, facts_length,
-                             valuation, sizeof valuation, verdicts, sizeof verdicts, &detail);
+    refusal = zankezurt_open(policy, policy_length, ZANKEZURT_LENT(state), &detail);
 }
 
 /* An observation at minute 1,000: sequence number 1, mark 0. */
 static void call_receive(void)
 {
     static const uint8_t message[] = {0x0E, 0xE8, 0x03, 0x01, 0x00, 0x01, 0x00, 0x00, 0x00, 0x01};
-    refusal = zankezurt_receive(policy, policy_length, message, sizeof message, numbers, numbers_length, facts, facts_length,
-                                valuation, sizeof valuation, verdicts, sizeof verdicts, &detail);
+    refusal = zankezurt_receive(policy, policy_length, message, sizeof message, ZANKEZURT_LENT(state), &detail);
 }
 
 static void call_lookup(void)
 {
-    refusal = zankezurt_lookup(policy, policy_length, verdicts, sizeof verdicts, RULES - 1, MINUTES - 1, &detail);
+    refusal = zankezurt_lookup(policy, policy_length, state.verdicts, sizeof state.verdicts, RULES - 1, MINUTES - 1, &detail);
 }
 
 /* How far down the stack was written. */

@@ -46,6 +46,24 @@ fn answer(number: u8, detail: usize) -> Result<usize, Refusal> {
     }
 }
 
+/// Calls a function of the archive: slices that it reads, plain numbers, slices that it writes.
+macro_rules! call {
+    ($function:ident($($read:ident),*; $($number:ident),*; $($written:ident),*)) => {{
+        let mut detail = 0;
+        // SAFETY: each slice is lent as its own pointer and length: not null, aligned, and nothing else overlaps what is written,
+        // since that is borrowed alone. The detail is a local. The call keeps no pointer.
+        let number = unsafe {
+            archive::$function(
+                $($read.as_ptr(), $read.len(),)*
+                $($number,)*
+                $($written.as_mut_ptr(), $written.len(),)*
+                &mut detail,
+            )
+        };
+        answer(number, detail)
+    }};
+}
+
 /// Opens the lent state under a policy, whatever the buffers held: nothing is known, and every verdict is blank.
 pub fn open(
     policy: &[u8],
@@ -54,25 +72,7 @@ pub fn open(
     valuation: &mut [u8],
     verdicts: &mut [u8],
 ) -> Result<(), Refusal> {
-    let mut detail = 0;
-    // SAFETY: each slice is lent as its own pointer and length: not null, aligned, and no other one overlaps what is written, since
-    // each is borrowed. The call keeps none of them.
-    let number = unsafe {
-        archive::zankezurt_open(
-            policy.as_ptr(),
-            policy.len(),
-            numbers.as_mut_ptr(),
-            numbers.len(),
-            facts.as_mut_ptr(),
-            facts.len(),
-            valuation.as_mut_ptr(),
-            valuation.len(),
-            verdicts.as_mut_ptr(),
-            verdicts.len(),
-            &mut detail,
-        )
-    };
-    answer(number, detail).map(|_| ())
+    call!(zankezurt_open(policy;; numbers, facts, valuation, verdicts)).map(|_| ())
 }
 
 /// Takes one message, of any bytes, into the lent state; gives how many verdicts stand.
@@ -84,44 +84,12 @@ pub fn receive(
     valuation: &mut [u8],
     verdicts: &mut [u8],
 ) -> Result<usize, Refusal> {
-    let mut detail = 0;
-    // SAFETY: as in `open`; policy and message are only read, so they may overlap each other.
-    let number = unsafe {
-        archive::zankezurt_receive(
-            policy.as_ptr(),
-            policy.len(),
-            message.as_ptr(),
-            message.len(),
-            numbers.as_mut_ptr(),
-            numbers.len(),
-            facts.as_mut_ptr(),
-            facts.len(),
-            valuation.as_mut_ptr(),
-            valuation.len(),
-            verdicts.as_mut_ptr(),
-            verdicts.len(),
-            &mut detail,
-        )
-    };
-    answer(number, detail)
+    call!(zankezurt_receive(policy, message;; numbers, facts, valuation, verdicts))
 }
 
 /// The verdict of a rule at a minute, from the lent verdict sheet.
 pub fn lookup(policy: &[u8], verdicts: &[u8], rule: usize, minute: usize) -> Result<Verdict, Refusal> {
-    let mut detail = 0;
-    // SAFETY: as in `open`; only the detail is written.
-    let number = unsafe {
-        archive::zankezurt_lookup(
-            policy.as_ptr(),
-            policy.len(),
-            verdicts.as_ptr(),
-            verdicts.len(),
-            rule,
-            minute,
-            &mut detail,
-        )
-    };
-    answer(number, detail).map(Verdict::of_code)
+    call!(zankezurt_lookup(policy, verdicts; rule, minute;)).map(Verdict::of_code)
 }
 
 #[cfg(test)]

@@ -9,14 +9,7 @@ enum { COMPONENTS = 1, MINUTES = 4, SUBFORMULAS = 3, RULES = 1 };
 /* Mark 0 at some time in the last 2 minutes. */
 static const uint8_t policy[] = {0x01, 0x01, 0x04, 0x00, 0x03, 0x00, 0x01, 0x01, 0x35, 0x04, 0x01, 0x02, 0x00};
 
-static uint16_t numbers[ZANKEZURT_NUMBERS_LENGTH(COMPONENTS, MINUTES)];
-static uint32_t facts[ZANKEZURT_FACTS_LENGTH(MINUTES)];
-static uint8_t valuation[ZANKEZURT_VALUATION_LENGTH(SUBFORMULAS, MINUTES)];
-static uint8_t verdicts[ZANKEZURT_VERDICTS_LENGTH(RULES, MINUTES)];
-
-static const size_t numbers_length = sizeof numbers / sizeof numbers[0];
-static const size_t facts_length = sizeof facts / sizeof facts[0];
-
+static ZANKEZURT_STATE(COMPONENTS, MINUTES, SUBFORMULAS, RULES) state;
 static size_t detail;
 
 static void expect(const char *what, size_t found, size_t expected)
@@ -29,14 +22,17 @@ static void expect(const char *what, size_t found, size_t expected)
 
 static uint8_t open_under(const uint8_t *bytes, size_t length)
 {
-    return zankezurt_open(bytes, length, numbers, numbers_length, facts, facts_length,
-                          valuation, sizeof valuation, verdicts, sizeof verdicts, &detail);
+    return zankezurt_open(bytes, length, ZANKEZURT_LENT(state), &detail);
 }
 
 static uint8_t receive(const uint8_t *bytes, size_t length)
 {
-    return zankezurt_receive(policy, sizeof policy, bytes, length, numbers, numbers_length, facts, facts_length,
-                             valuation, sizeof valuation, verdicts, sizeof verdicts, &detail);
+    return zankezurt_receive(policy, sizeof policy, bytes, length, ZANKEZURT_LENT(state), &detail);
+}
+
+static uint8_t look_under(const uint8_t *bytes, size_t length)
+{
+    return zankezurt_lookup(bytes, length, state.verdicts, sizeof state.verdicts, 0, 0, &detail);
 }
 
 int main(void)
@@ -44,8 +40,9 @@ int main(void)
     static const uint8_t alive[] = {0x10};
 
     expect("a policy that is NULL", open_under(NULL, 0), ZANKEZURT_TRUNCATED_POLICY);
-    expect("a look under it", zankezurt_lookup(NULL, 0, verdicts, sizeof verdicts, 0, 0, &detail), ZANKEZURT_TRUNCATED_POLICY);
+    expect("a look under it", look_under(NULL, 0), ZANKEZURT_TRUNCATED_POLICY);
     expect("a policy", open_under(policy, sizeof policy), ZANKEZURT_ACCEPTED);
+    expect("a look", look_under(policy, sizeof policy), ZANKEZURT_ACCEPTED);
 
     detail = 1;
     expect("a message that is NULL", receive(NULL, 0), ZANKEZURT_TRUNCATED_MESSAGE);

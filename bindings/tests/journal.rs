@@ -15,6 +15,7 @@ use zankezurt::Shift;
 
 const SLOT: usize = 32;
 const SIGKILL: i32 = 9;
+const CONTRADICTED: usize = 5;
 
 /// When the power is cut, and what then becomes of bytes that are not on the disk.
 #[derive(Clone, Copy, Debug)]
@@ -49,7 +50,7 @@ struct Printed {
     sheet: Vec<String>,
 }
 
-/// The bakery's policy and the messages of its shift but the last, which contradicts another.
+/// The bakery's policy and its messages. The last one contradicts another, `CONTRADICTED`.
 fn bakery() -> (Vec<u8>, Vec<Vec<u8>>) {
     let bytes = fs::read(root().join("demo/bakery.bin")).unwrap();
     let length = u16::from_le_bytes([bytes[0], bytes[1]]).into();
@@ -60,15 +61,18 @@ fn bakery() -> (Vec<u8>, Vec<Vec<u8>>) {
         messages.push(message.to_vec());
         rest = others;
     }
-    messages.pop();
     (policy.to_vec(), messages)
 }
 
-/// What a radio brings, each message after its length: every other message, one that the other radio brings too, and the ill-formed ones.
+/// What a radio brings: every other message, one that the other radio brings too, and the ill-formed ones.
 fn brought(radio: usize, messages: &[Vec<u8>]) -> Vec<u8> {
     let own = messages.iter().enumerate().filter(|(i, _)| i % 2 == radio || *i == 4);
-    let all = own.map(|(_, message)| &message[..]).chain(ILL_FORMED);
-    all.flat_map(|message| [&[message.len() as u8], message].concat()).collect()
+    framed(own.map(|(_, message)| &message[..]).chain(ILL_FORMED))
+}
+
+/// Each message after its length.
+fn framed<'a>(messages: impl IntoIterator<Item = &'a [u8]>) -> Vec<u8> {
+    messages.into_iter().flat_map(|message| [&[message.len() as u8], message].concat()).collect()
 }
 
 /// The sheet of the whole shift.
@@ -104,7 +108,8 @@ impl Hub {
     fn new(name: &str) -> Hub {
         let folder = scratch(name);
         fs::create_dir_all(&folder).unwrap();
-        let (policy, messages) = bakery();
+        let (policy, mut messages) = bakery();
+        messages.pop();
         fs::write(folder.join("policy"), policy).unwrap();
         let hub = Hub { folder, messages: messages.iter().map(|message| hexadecimal(message)).collect() };
         for (number, radio) in hub.radios().iter().enumerate() {
@@ -255,6 +260,21 @@ fn killed_from_outside() {
         child.kill().unwrap();
         read.extend(lines);
         hub.assert_recovers(&Printed::of(&read, child.wait().unwrap()), &format!("after {count}"));
+    }
+}
+
+/// Of two messages that contradict each other the first is taken, and after a restart it is the first again.
+#[test]
+fn contradicting_messages_keep_their_order() {
+    let hub = Hub::new("contradicting");
+    let messages = bakery().1;
+    for (radio, i) in hub.radios().iter().zip([CONTRADICTED, messages.len() - 1]) {
+        fs::write(radio, framed([&messages[0][..], &messages[i]])).unwrap();
+    }
+    for _ in 0..10 {
+        hub.forget();
+        let before = hub.run(&hub.radios(), None);
+        assert_eq!(hub.run(&[], None).sheet, before.sheet);
     }
 }
 
