@@ -4,10 +4,11 @@
 //!
 //! POLICY is a file with the encoded policy. The journal is made if there is none; what it holds is replayed, and each message of it is
 //! printed. Each RADIO is a file, pipe or device that brings messages, each after one length byte, in a thread of its own. A printed line
-//! acknowledges a message: it is on the disk, and taken or refused. When all radios have ended the release sheet is printed.
+//! acknowledges a message: it is on the disk, and taken or refused. (One that is too long to be taken is refused, and not kept.) When all
+//! radios have ended the release sheet is printed. Any error ends the program.
 //!
 //! The journal is a row of slots of 32 bytes: the length of the message, the message, zeros, and the CRC-32 of those 28 bytes. The first slot
-//! holds the policy's mark in the place of a message. A slot that a power cut tore fails its CRC and is passed over, and since slots
+//! holds a sum of the policy in the place of a message. A slot that a power cut tore fails its CRC and is passed over, and since slots
 //! stand at multiples of 32 it hides no other.
 
 use std::error::Error;
@@ -121,6 +122,8 @@ impl Hub {
 
 struct Journal {
     file: File,
+    /// A write or sync has failed.
+    failed: bool,
 }
 
 impl Journal {
@@ -142,13 +145,18 @@ impl Journal {
         }
         file.sync_all()?;
         sync_folder(path)?;
-        Ok((Journal { file }, bytes))
+        Ok((Journal { file, failed: false }, bytes))
     }
 
-    /// The slot is on the disk once this returns. After an error nobody knows how much of it is: the hub has to stop and start again.
+    /// The slot is on the disk once this returns. After an error nobody knows how much of it is, so nothing is appended any more, by no
+    /// radio: the hub has to stop and start again.
     fn append(&mut self, slot: &[u8; SLOT]) -> io::Result<()> {
-        self.file.write_all(slot)?;
-        self.file.sync_data()
+        if self.failed {
+            return Err(io::Error::other("the journal has failed"));
+        }
+        let done = self.file.write_all(slot).and_then(|()| self.file.sync_data());
+        self.failed = done.is_err();
+        done
     }
 }
 
@@ -184,8 +192,8 @@ fn slot_of(bytes: &[u8]) -> Option<[u8; SLOT]> {
 fn slot_bytes(slot: &[u8]) -> Option<&[u8]> {
     let (checked, sum) = slot.split_at_checked(CHECKED)?;
     let (&length, room) = checked.split_first()?;
-    (sum == crc32(checked).to_le_bytes()).then_some(())?;
-    room.get(..length.into())
+    let whole = sum == crc32(checked).to_le_bytes();
+    room.get(..length.into()).filter(|_| whole)
 }
 
 /// The CRC-32 of Ethernet and zip. That of zeros is not 0, so a slot that reads as zeros is damaged.

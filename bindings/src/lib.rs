@@ -3,6 +3,8 @@
 //! [`Shift`] opens a policy and owns the four buffers of its state:
 //!
 //! ```
+//! # #[cfg(feature = "alloc")]
+//! # fn main() -> Result<(), zankezurt::Refusal> {
 //! use zankezurt::{Reason, Shift, Verdict};
 //!
 //! // mark 0 at some time in the last 2 minutes
@@ -17,7 +19,10 @@
 //! let refusal = shift.receive(&[]).unwrap_err();
 //! assert_eq!(refusal.reason, Reason::TruncatedMessage);
 //! assert_eq!(refusal.to_string(), "refused 7 at 0: truncated message");
-//! # Ok::<(), zankezurt::Refusal>(())
+//! # Ok(())
+//! # }
+//! # #[cfg(not(feature = "alloc"))]
+//! # fn main() {}
 //! ```
 //!
 //! [`open`], [`receive`] and [`lookup`] do the same in memory that the caller lends, with no heap: a crate that depends on this one

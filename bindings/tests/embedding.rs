@@ -33,14 +33,14 @@ fn shell(commands: &str) -> String {
 #[test]
 fn the_commands_run() {
     let blocks = blocks(&text(DOCUMENT));
-    let nothing = (String::new(), String::new());
     for (i, (language, commands)) in blocks.iter().enumerate() {
         if language != "sh" || is_of_the_gate(commands) {
             continue;
         }
         let printed = shell(commands);
-        let (follows, expected) = blocks.get(i + 1).unwrap_or(&nothing);
-        assert!(follows != "text" || printed == *expected, "{commands}{printed}");
+        if let Some((_, expected)) = blocks.get(i + 1).filter(|(language, _)| language == "text") {
+            assert_eq!(printed, *expected, "{commands}");
+        }
     }
 }
 

@@ -2,7 +2,7 @@
 
 mod common;
 
-use common::{build_program, example, text};
+use common::{build_program, text};
 use std::path::Path;
 use std::process::Command;
 
@@ -17,7 +17,8 @@ fn the_example_in_c() {
     assert_prints_the_small_shift(&build_program("examples/small_shift.c", "small_shift_c"));
 }
 
+#[cfg(feature = "alloc")]
 #[test]
 fn the_example_in_rust() {
-    assert_prints_the_small_shift(&example("small_shift"));
+    assert_prints_the_small_shift(&common::example("small_shift"));
 }

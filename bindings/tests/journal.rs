@@ -1,5 +1,6 @@
 //! The journal example: whatever the moment of a power cut, every message that was acknowledged is found after it, and once the radios have
 //! sent again what was not acknowledged the sheet is the one without the cut. Two radios send at once.
+#![cfg(feature = "alloc")]
 
 mod common;
 
@@ -18,7 +19,7 @@ const SIGKILL: i32 = 9;
 const CONTRADICTED: usize = 5;
 
 /// When the power is cut, and what then becomes of bytes that are not on the disk.
-#[derive(Clone, Copy, Debug)]
+#[derive(Clone, Copy, Debug, Default)]
 struct Cut {
     /// At which write, truncation or sync of the journal.
     at: usize,
@@ -26,6 +27,8 @@ struct Cut {
     keep: usize,
     /// The others read as zeros, and are not missing.
     zeros: bool,
+    /// The power stays, and the write, truncation or sync fails.
+    error: bool,
 }
 
 /// What becomes of a slot that is not on the disk: nothing of it stays, a part, or all.
@@ -143,9 +146,9 @@ impl Hub {
     fn run(&self, radios: &[PathBuf], cut: Option<Cut>) -> Printed {
         let mut command = self.command(radios);
         command.env("LD_PRELOAD", disk()).env("CUT_FILE", self.journal());
-        if let Some(Cut { at, keep, zeros }) = cut {
+        if let Some(Cut { at, keep, zeros, error }) = cut {
             command.env("CUT_AT", at.to_string()).env("CUT_KEEP", keep.to_string());
-            command.env("CUT_ZEROS", u8::from(zeros).to_string());
+            command.env("CUT_ZEROS", u8::from(zeros).to_string()).env("CUT_ERROR", u8::from(error).to_string());
         }
         let mut hub = command.spawn().unwrap();
         let lines: Vec<String> = lines(&mut hub).collect();
@@ -215,7 +218,7 @@ fn a_cut_at_every_point() {
     for (keep, zeros) in LOSSES {
         for at in 0.. {
             hub.forget();
-            let cut = Cut { at, keep, zeros };
+            let cut = Cut { at, keep, zeros, ..Cut::default() };
             let before = hub.run(&hub.radios(), Some(cut));
             if before.finished() {
                 assert_eq!(before.sheet, whole_sheet());
@@ -231,19 +234,37 @@ fn a_cut_at_every_point() {
 #[test]
 fn a_cut_while_starting_again() {
     let hub = Hub::new("cut while starting again");
-    let first = Cut { at: 8, keep: 11, zeros: false };
+    let first = Cut { at: 8, keep: 11, ..Cut::default() };
     for (keep, zeros) in [(0, false), (11, false), (5, true)] {
         for at in 0.. {
             hub.forget();
             let mut before = hub.run(&hub.radios(), Some(first));
             assert_eq!(fs::metadata(hub.journal()).unwrap().len() % SLOT as u64, 11);
-            let second = Cut { at, keep, zeros };
+            let second = Cut { at, keep, zeros, ..Cut::default() };
             let between = hub.run(&hub.radios(), Some(second));
             before.acknowledged.extend(between.acknowledged.iter().cloned());
             hub.assert_recovers(&before, &format!("{second:?}"));
             if between.finished() {
                 break;
             }
+        }
+    }
+}
+
+/// A write, truncation or sync that fails: the hub stops, and nothing that it acknowledged is lost.
+#[test]
+fn a_disk_that_fails() {
+    let hub = Hub::new("disk that fails");
+    for keep in [0, 11, 31] {
+        for at in 0.. {
+            hub.forget();
+            let failure = Cut { at, keep, error: true, ..Cut::default() };
+            let before = hub.run(&hub.radios(), Some(failure));
+            hub.assert_recovers(&before, &format!("{failure:?}"));
+            if before.status.success() {
+                break;
+            }
+            assert_eq!(before.status.code(), Some(1));
         }
     }
 }

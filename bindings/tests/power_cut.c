@@ -2,9 +2,10 @@
 
    What is written to the file is on the disk only once the file is synced, and the file's name only once its folder is. At write,
    truncation or sync number CUT_AT the power is cut: of the bytes that are not on the disk the first CUT_KEEP stay and the others go, or
-   read as zeros if CUT_ZEROS is 1; if none stays, a name that is not on the disk goes too; and the process is killed. A sync that is not
-   cut takes no time. */
+   read as zeros if CUT_ZEROS is 1; if none stays, a name that is not on the disk goes too; and the process is killed. If CUT_ERROR is 1
+   the power stays, and the call fails, with the same loss of bytes. A sync that is not cut takes no time. */
 #define _GNU_SOURCE
+#include <errno.h>
 #include <fcntl.h>
 #include <signal.h>
 #include <stdlib.h>
@@ -13,7 +14,7 @@
 #include <unistd.h>
 
 static const char *file;
-static long cut_at, keep, zeros;
+static long cut_at, keep, zeros, error;
 
 static long operations;
 static off_t synced;
@@ -37,6 +38,7 @@ __attribute__((constructor)) static void begin(void)
     cut_at = number("CUT_AT", -1);
     keep = number("CUT_KEEP", 0);
     zeros = number("CUT_ZEROS", 0);
+    error = number("CUT_ERROR", 0);
     synced = size_now();
     named = synced >= 0;
     synced = named ? synced : 0;
@@ -54,11 +56,15 @@ static int is_folder(int descriptor)
     return fstat(descriptor, &it) == 0 && S_ISDIR(it.st_mode);
 }
 
-static void die(void)
+static void lose_bytes(void)
 {
     off_t size = size_now(), stays = synced + keep;
     if (stays < size && (truncate(file, stays) != 0 || (zeros && truncate(file, size) != 0)))
         abort();
+}
+
+static void die(void)
+{
     if (!named && keep == 0 && !zeros)
         unlink(file);
     kill(getpid(), SIGKILL);
@@ -66,25 +72,29 @@ static void die(void)
         pause();
 }
 
-/* The next write, truncation or sync. */
-static void step(void)
+/* The next write, truncation or sync: whether it fails. */
+static int fails(void)
 {
-    if (operations++ == cut_at)
+    if (operations++ != cut_at)
+        return 0;
+    lose_bytes();
+    if (!error)
         die();
+    errno = EIO;
+    return 1;
 }
 
 ssize_t write(int descriptor, const void *bytes, size_t length)
 {
     ssize_t written = syscall(SYS_write, descriptor, bytes, length);
-    if (is_file(descriptor))
-        step();
-    return written;
+    return is_file(descriptor) && fails() ? -1 : written;
 }
 
 int ftruncate64(int descriptor, off64_t length)
 {
     if (is_file(descriptor)) {
-        step();
+        if (fails())
+            return -1;
         synced = length < synced ? length : synced;
     }
     return syscall(SYS_ftruncate, descriptor, length);
@@ -92,13 +102,15 @@ int ftruncate64(int descriptor, off64_t length)
 
 int fsync(int descriptor)
 {
-    if (is_folder(descriptor)) {
-        step();
+    int folder = is_folder(descriptor);
+    if (!folder && !is_file(descriptor))
+        return 0;
+    if (fails())
+        return -1;
+    if (folder)
         named = 1;
-    } else if (is_file(descriptor)) {
-        step();
+    else
         synced = size_now();
-    }
     return 0;
 }
 

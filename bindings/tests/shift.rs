@@ -1,4 +1,5 @@
 //! A shift that owns its memory: sizes, takes and looks are those of the calls over lent memory.
+#![cfg(feature = "alloc")]
 
 use zankezurt::{lookup, open, receive, Reason, Shift, Sizes, Verdict};
 
