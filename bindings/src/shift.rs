@@ -8,8 +8,30 @@ use alloc::vec;
 
 /// A shift under its policy: what is known of it, and its verdicts, in buffers of its own (at most 113 KiB).
 ///
-/// Calls that change it borrow it alone. Where several threads bring messages, one `Mutex<Shift>` is enough: the order of their messages
-/// doesn't matter.
+/// Where several threads bring messages, one lock is enough: the order of messages that agree doesn't matter.
+///
+/// ```
+/// use std::sync::Mutex;
+/// use std::thread;
+/// use zankezurt::{Shift, Verdict};
+///
+/// // mark 0 at some time in the last 2 minutes
+/// let policy = [0x01, 0x01, 0x04, 0x00, 0x03, 0x00, 0x01, 0x01, 0x35, 0x04, 0x01, 0x02, 0x00];
+/// let radios: [&[u8]; 2] =
+///     [&[0x0C, 0x01, 0x00, 0x01, 0x00, 0x00, 0x00, 0x00], &[0x0E, 0x02, 0x00, 0x02, 0x00, 0x01, 0x00, 0x00, 0x00, 0x01]];
+///
+/// let shift = Mutex::new(Shift::open(&policy)?);
+/// thread::scope(|scope| {
+///     for message in radios {
+///         let shift = &shift;
+///         scope.spawn(move || shift.lock().unwrap().receive(message));
+///     }
+/// });
+/// let shift = shift.into_inner().unwrap();
+/// assert_eq!(shift.lookup(0, 0)?, Verdict::Violated);
+/// assert_eq!(shift.lookup(0, 2)?, Verdict::Satisfied);
+/// # Ok::<(), zankezurt::Refusal>(())
+/// ```
 #[derive(Clone, Debug, PartialEq, Eq)]
 pub struct Shift {
     policy: Box<[u8]>,

@@ -13,15 +13,15 @@ const RULE: u8 = 0b0010_0000;
 /// The sizes of a policy, which give the exact lengths of the four buffers.
 #[derive(Clone, Copy, Debug, PartialEq, Eq, Hash)]
 pub struct Sizes {
-    /// Marks.
+    /// How many propositions (marks).
     pub propositions: usize,
-    /// Stations.
+    /// How many components (stations).
     pub components: usize,
-    /// Minutes.
+    /// How many minutes.
     pub minutes: usize,
-    /// Lines of the policy.
+    /// How many subformulas (lines).
     pub subformulas: usize,
-    /// Lines that are rules.
+    /// How many of them are rules.
     pub rules: usize,
 }
 
