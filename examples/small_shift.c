@@ -19,25 +19,13 @@ static const struct message messages[MESSAGES] = {
     {5, {0x06, 0x03, 0x00, 0x03, 0x00}},
 };
 
-static uint16_t numbers[ZANKEZURT_NUMBERS_LENGTH(COMPONENTS, MINUTES)];
-static uint32_t facts[ZANKEZURT_FACTS_LENGTH(MINUTES)];
-static uint8_t valuation[ZANKEZURT_VALUATION_LENGTH(SUBFORMULAS, MINUTES)];
-static uint8_t verdicts[ZANKEZURT_VERDICTS_LENGTH(RULES, MINUTES)];
-
-static const size_t numbers_length = sizeof numbers / sizeof numbers[0];
-static const size_t facts_length = sizeof facts / sizeof facts[0];
-
-static uint8_t receive(const struct message *message, size_t *detail)
-{
-    return zankezurt_receive(policy, sizeof policy, message->bytes, message->length, numbers, numbers_length, facts, facts_length,
-                             valuation, sizeof valuation, verdicts, sizeof verdicts, detail);
-}
+static ZANKEZURT_STATE(COMPONENTS, MINUTES, SUBFORMULAS, RULES) state;
 
 /* One line of the sheet, where the verdict is not blank; gives the refusal's number. */
 static uint8_t print_verdict(size_t rule, size_t minute)
 {
     size_t verdict;
-    uint8_t refusal = zankezurt_lookup(policy, sizeof policy, verdicts, sizeof verdicts, rule, minute, &verdict);
+    uint8_t refusal = zankezurt_lookup(policy, sizeof policy, state.verdicts, sizeof state.verdicts, rule, minute, &verdict);
     if (refusal == ZANKEZURT_ACCEPTED && verdict != ZANKEZURT_UNKNOWN)
         printf("%zu %zu %s\n", minute, rule, verdict == ZANKEZURT_SATISFIED ? "kept" : "broken");
     return refusal;
@@ -47,15 +35,17 @@ int main(void)
 {
     size_t detail;
     int taken = 0;
-    uint8_t refusal = zankezurt_open(policy, sizeof policy, numbers, numbers_length, facts, facts_length,
-                                     valuation, sizeof valuation, verdicts, sizeof verdicts, &detail);
+    uint8_t refusal = zankezurt_open(policy, sizeof policy, ZANKEZURT_LENT(state), &detail);
     if (refusal != ZANKEZURT_ACCEPTED) {
         printf("card refused %u at %zu\n", refusal, detail);
         return 1;
     }
-    for (size_t i = 0; i < MESSAGES; i++)
-        if (receive(&messages[i], &detail) == ZANKEZURT_ACCEPTED)
+    for (size_t i = 0; i < MESSAGES; i++) {
+        const struct message *message = &messages[i];
+        refusal = zankezurt_receive(policy, sizeof policy, message->bytes, message->length, ZANKEZURT_LENT(state), &detail);
+        if (refusal == ZANKEZURT_ACCEPTED)
             taken++;
+    }
     for (size_t minute = 0; minute < MINUTES; minute++)
         for (size_t rule = 0; rule < RULES; rule++)
             if (print_verdict(rule, minute) != ZANKEZURT_ACCEPTED)

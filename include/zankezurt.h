@@ -1,16 +1,23 @@
-/* The calls of the proved runtime monitor for C, on x86-64: link libmonitor_c.a, which `rt staticlib monitor_c` writes.
+/* The calls of the proved runtime monitor for C, on x86-64 Linux: link libmonitor_c.a, which `rt staticlib monitor_c` writes.
 
    A call gives 0, or the number of its refusal, and writes *detail: the place of a refusal (0 where it has none), how many
    verdicts stand after zankezurt_receive, the verdict that zankezurt_lookup shows, 0 after zankezurt_open. Nothing is asked of
    what the bytes and buffers hold, nor of their lengths, and a refused call changes no buffer.
 
-   What C itself asks of a caller: each pointer points to as many elements as its length says and is not NULL, even where the length
-   is 0; no two buffers that a call writes overlap, nor do they overlap what it reads or *detail. */
+   What C itself asks of a caller: each pointer is aligned for its type and points to as many elements as its length says; a policy
+   or message of length 0 may be NULL, a buffer and detail may not; no two buffers that a call writes overlap, nor do they overlap
+   what it reads or *detail. No pointer is kept after a call. docs/EMBEDDING.md has stack, time, threads and power cuts. */
 #ifndef ZANKEZURT_H
 #define ZANKEZURT_H
 
 #include <stddef.h>
 #include <stdint.h>
+
+/* The version of this header; zankezurt_version tells that of the archive. */
+#define ZANKEZURT_VERSION_MAJOR 0
+#define ZANKEZURT_VERSION_MINOR 1
+#define ZANKEZURT_VERSION_PATCH 0
+#define ZANKEZURT_VERSION (10000 * ZANKEZURT_VERSION_MAJOR + 100 * ZANKEZURT_VERSION_MINOR + ZANKEZURT_VERSION_PATCH)
 
 #ifdef __cplusplus
 extern "C" {
@@ -44,6 +51,20 @@ enum zankezurt_verdict {
 #define ZANKEZURT_VALUATION_LENGTH(subformulas, minutes) ((size_t)(subformulas) * (size_t)(minutes))
 #define ZANKEZURT_VERDICTS_LENGTH(rules, minutes) ((size_t)(rules) * (size_t)(minutes))
 
+/* The type of a state, four buffers of their exact lengths, where the sizes of the policy are constants. */
+#define ZANKEZURT_STATE(components, minutes, subformulas, rules)                                                                 \
+    struct {                                                                                                                     \
+        uint16_t numbers[ZANKEZURT_NUMBERS_LENGTH(components, minutes)];                                                         \
+        uint32_t facts[ZANKEZURT_FACTS_LENGTH(minutes)];                                                                         \
+        uint8_t valuation[ZANKEZURT_VALUATION_LENGTH(subformulas, minutes)];                                                     \
+        uint8_t verdicts[ZANKEZURT_VERDICTS_LENGTH(rules, minutes)];                                                             \
+    }
+
+/* Such a state as zankezurt_open and zankezurt_receive want it: each buffer and its length. */
+#define ZANKEZURT_LENT(state)                                                                                                    \
+    (state).numbers, sizeof (state).numbers / sizeof (uint16_t), (state).facts, sizeof (state).facts / sizeof (uint32_t),        \
+        (state).valuation, sizeof (state).valuation, (state).verdicts, sizeof (state).verdicts
+
 /* Opens the lent state under a policy, whatever the buffers held: nothing is known, and every verdict is blank. */
 uint8_t zankezurt_open(const uint8_t *policy, size_t policy_length,
                        uint16_t *numbers, size_t numbers_length,
@@ -66,6 +87,55 @@ uint8_t zankezurt_lookup(const uint8_t *policy, size_t policy_length,
                          const uint8_t *verdicts, size_t verdicts_length,
                          size_t rule, size_t minute,
                          size_t *detail);
+
+/* The version of the archive that is linked, counted as ZANKEZURT_VERSION is. */
+uint32_t zankezurt_version(void);
+
+/* Nothing is promised of the archive's functions where a pointer is NULL, not even with a length of 0: the language that they are
+   compiled from has no such slice. So in C the three names stand for the functions below, which put an address of their own in the
+   place of an empty policy or message. */
+static inline const uint8_t *zankezurt_bytes(const uint8_t *bytes, size_t length)
+{
+    static const uint8_t none = 0;
+    return length == 0 ? &none : bytes;
+}
+
+static inline uint8_t zankezurt_open_bytes(const uint8_t *policy, size_t policy_length,
+                                           uint16_t *numbers, size_t numbers_length,
+                                           uint32_t *facts, size_t facts_length,
+                                           uint8_t *valuation, size_t valuation_length,
+                                           uint8_t *verdicts, size_t verdicts_length,
+                                           size_t *detail)
+{
+    return zankezurt_open(zankezurt_bytes(policy, policy_length), policy_length, numbers, numbers_length,
+                          facts, facts_length, valuation, valuation_length, verdicts, verdicts_length, detail);
+}
+
+static inline uint8_t zankezurt_receive_bytes(const uint8_t *policy, size_t policy_length,
+                                              const uint8_t *message, size_t message_length,
+                                              uint16_t *numbers, size_t numbers_length,
+                                              uint32_t *facts, size_t facts_length,
+                                              uint8_t *valuation, size_t valuation_length,
+                                              uint8_t *verdicts, size_t verdicts_length,
+                                              size_t *detail)
+{
+    return zankezurt_receive(zankezurt_bytes(policy, policy_length), policy_length,
+                             zankezurt_bytes(message, message_length), message_length, numbers, numbers_length,
+                             facts, facts_length, valuation, valuation_length, verdicts, verdicts_length, detail);
+}
+
+static inline uint8_t zankezurt_lookup_bytes(const uint8_t *policy, size_t policy_length,
+                                             const uint8_t *verdicts, size_t verdicts_length,
+                                             size_t rule, size_t minute,
+                                             size_t *detail)
+{
+    return zankezurt_lookup(zankezurt_bytes(policy, policy_length), policy_length,
+                            verdicts, verdicts_length, rule, minute, detail);
+}
+
+#define zankezurt_open zankezurt_open_bytes
+#define zankezurt_receive zankezurt_receive_bytes
+#define zankezurt_lookup zankezurt_lookup_bytes
 
 #ifdef __cplusplus
 }

@@ -1,46 +1,14 @@
-//! The header, the bindings and the README name the same refusals by the same numbers.
+//! The header, the bindings, the archive and the README agree: refusals by name and number, and the version.
 
-use std::fs;
-use std::path::Path;
-use zankezurt::Reason::{self, *};
+mod common;
 
-/// Every reason; the match below tells if one is missing here.
-const REASONS: [Reason; 10] = [
-    TruncatedPolicy,
-    BadHeading,
-    BadSubformula,
-    RuleCount,
-    BufferSize,
-    CorruptKnowledge,
-    TruncatedMessage,
-    BadMessage,
-    Conflict,
-    OutOfRange,
-];
-
-/// The reason's name in plain words. A reason that is added needs a line here and above.
-fn name(reason: Reason) -> &'static str {
-    match reason {
-        TruncatedPolicy => "truncated policy",
-        BadHeading => "bad heading",
-        BadSubformula => "bad subformula",
-        RuleCount => "rule count",
-        BufferSize => "buffer size",
-        CorruptKnowledge => "corrupt knowledge",
-        TruncatedMessage => "truncated message",
-        BadMessage => "bad message",
-        Conflict => "conflict",
-        OutOfRange => "out of range",
-    }
-}
+use common::{build_program, text};
+use std::process::Command;
+use zankezurt::{version, Reason, VERSION};
 
 /// Number and name of every reason of the bindings.
 fn expected() -> Vec<(u8, String)> {
-    REASONS.map(|reason| (reason.number(), name(reason).to_string())).to_vec()
-}
-
-fn text(file: &str) -> String {
-    fs::read_to_string(Path::new(env!("CARGO_MANIFEST_DIR")).join("..").join(file)).unwrap()
+    Reason::ALL.map(|reason| (reason.number(), reason.to_string())).to_vec()
 }
 
 #[test]
@@ -68,4 +36,17 @@ fn the_readme_has_the_reasons_of_the_bindings() {
     };
     let found: Vec<(u8, String)> = table.lines().map_while(row).collect();
     assert_eq!(found, expected());
+}
+
+#[test]
+fn the_archive_is_of_the_bindings_version() {
+    assert_eq!(version(), VERSION);
+}
+
+/// The header's version, the archive's, and calls with empty and NULL bytes, from C; it stops at the first that is wrong.
+#[test]
+fn the_calls_from_c() {
+    let said = Command::new(build_program("bindings/tests/calls.c", "calls")).output().unwrap();
+    assert!(said.status.success(), "{}", String::from_utf8_lossy(&said.stderr));
+    assert_eq!(String::from_utf8(said.stdout).unwrap(), format!("version {VERSION}\n"));
 }

@@ -107,3 +107,11 @@ pub extern "C" fn zankezurt_lookup(
     *detail = look_detail(look);
     look_number(look)
 }
+
+// The version of the library, 0.1.0: 10,000 times the major number, 100 times the minor, and the patch.
+#[no_mangle]
+pub extern "C" fn zankezurt_version() -> u32
+    ensures { λ r. ⌜ r ≡ 100 ⌝ }
+{
+    100
+}

@@ -1,0 +1,98 @@
+/* Runs each call on a painted stack, under the largest policy, and prints how many bytes of the stack it wrote. */
+#include <stdint.h>
+#include <stdio.h>
+#include <stdlib.h>
+#include <string.h>
+#include <ucontext.h>
+
+#include "zankezurt.h"
+
+enum { PROPOSITIONS = 32, COMPONENTS = 16, MINUTES = 1024, SUBFORMULAS = 64, RULES = 8 };
+enum { STACK = 1 << 16, PAINT = 0xA5, LONGEST = 5 + 4 * SUBFORMULAS };
+
+static uint8_t policy[LONGEST];
+static size_t policy_length;
+
+static ZANKEZURT_STATE(COMPONENTS, MINUTES, SUBFORMULAS, RULES) state;
+
+static uint8_t stack[STACK];
+static ucontext_t here, there;
+static size_t detail;
+static uint8_t refusal;
+
+static void append(const uint8_t *bytes, size_t length)
+{
+    memcpy(policy + policy_length, bytes, length);
+    policy_length += length;
+}
+
+/* A mark, and then since and until by turns over it, up to 1,023 minutes; the last lines are rules. */
+static void write_policy(void)
+{
+    const uint8_t heading[] = {PROPOSITIONS, COMPONENTS, MINUTES & 0xFF, MINUTES >> 8, SUBFORMULAS};
+    const uint8_t mark[] = {0x01, 0x01};
+    append(heading, sizeof heading);
+    append(mark, sizeof mark);
+    for (int line = 1; line < SUBFORMULAS; line++) {
+        const uint8_t rule = line >= SUBFORMULAS - RULES ? 0x20 : 0x00;
+        const uint8_t temporal[] = {rule | 0x11, line % 2 ? 0x04 : 0x05, 0xFF, 0x03};
+        append(temporal, sizeof temporal);
+    }
+}
+
+static void call_nothing(void) {}
+
+static void call_version(void) { detail = zankezurt_version(); }
+
+static void call_open(void)
+{
+    refusal = zankezurt_open(policy, policy_length, ZANKEZURT_LENT(state), &detail);
+}
+
+/* An observation at minute 1,000: sequence number 1, mark 0. */
+static void call_receive(void)
+{
+    static const uint8_t message[] = {0x0E, 0xE8, 0x03, 0x01, 0x00, 0x01, 0x00, 0x00, 0x00, 0x01};
+    refusal = zankezurt_receive(policy, policy_length, message, sizeof message, ZANKEZURT_LENT(state), &detail);
+}
+
+static void call_lookup(void)
+{
+    refusal = zankezurt_lookup(policy, policy_length, state.verdicts, sizeof state.verdicts, RULES - 1, MINUTES - 1, &detail);
+}
+
+/* How far down the stack was written. */
+static size_t written(void (*call)(void))
+{
+    size_t untouched = 0;
+    memset(stack, PAINT, sizeof stack);
+    getcontext(&there);
+    there.uc_stack.ss_sp = stack;
+    there.uc_stack.ss_size = sizeof stack;
+    there.uc_link = &here;
+    makecontext(&there, call, 0);
+    swapcontext(&here, &there);
+    while (untouched < sizeof stack && stack[untouched] == PAINT)
+        untouched++;
+    return sizeof stack - untouched;
+}
+
+static void print(const char *name, void (*call)(void))
+{
+    refusal = ZANKEZURT_ACCEPTED;
+    printf("%s %zu\n", name, written(call) - written(call_nothing));
+    if (refusal != ZANKEZURT_ACCEPTED) {
+        fprintf(stderr, "%s: refused %u at %zu\n", name, refusal, detail);
+        exit(1);
+    }
+}
+
+int main(void)
+{
+    write_policy();
+    print("zankezurt_lookup", call_lookup);
+    print("zankezurt_open", call_open);
+    print("zankezurt_receive", call_receive);
+    print("zankezurt_version", call_version);
+    return 0;
+}

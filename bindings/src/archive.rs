@@ -1,0 +1,45 @@
+//! The archive's functions, as `include/zankezurt.h` declares them: a slice is a pointer, never null, and a length.
+
+extern "C" {
+    pub fn zankezurt_open(
+        policy: *const u8,
+        policy_length: usize,
+        numbers: *mut u16,
+        numbers_length: usize,
+        facts: *mut u32,
+        facts_length: usize,
+        valuation: *mut u8,
+        valuation_length: usize,
+        verdicts: *mut u8,
+        verdicts_length: usize,
+        detail: *mut usize,
+    ) -> u8;
+
+    pub fn zankezurt_receive(
+        policy: *const u8,
+        policy_length: usize,
+        message: *const u8,
+        message_length: usize,
+        numbers: *mut u16,
+        numbers_length: usize,
+        facts: *mut u32,
+        facts_length: usize,
+        valuation: *mut u8,
+        valuation_length: usize,
+        verdicts: *mut u8,
+        verdicts_length: usize,
+        detail: *mut usize,
+    ) -> u8;
+
+    pub fn zankezurt_lookup(
+        policy: *const u8,
+        policy_length: usize,
+        verdicts: *const u8,
+        verdicts_length: usize,
+        rule: usize,
+        minute: usize,
+        detail: *mut usize,
+    ) -> u8;
+
+    pub fn zankezurt_version() -> u32;
+}

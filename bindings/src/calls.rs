@@ -1,0 +1,104 @@
+//! The calls over lent memory.
+#![allow(unsafe_code)]
+
+use crate::archive;
+use crate::refusal::{Reason, Refusal};
+use core::fmt;
+
+/// What the verdict sheet shows of a rule at a minute.
+#[derive(Clone, Copy, Debug, PartialEq, Eq, Hash)]
+pub enum Verdict {
+    /// Blank: nothing is printed.
+    Unknown,
+    /// Kept.
+    Satisfied,
+    /// Broken.
+    Violated,
+}
+
+impl Verdict {
+    /// What a code of the sheet shows: other codes than 1 and 2 read as blank.
+    pub(crate) fn of_code(code: usize) -> Verdict {
+        match code {
+            1 => Verdict::Satisfied,
+            2 => Verdict::Violated,
+            _ => Verdict::Unknown,
+        }
+    }
+}
+
+/// The word that a release sheet prints.
+impl fmt::Display for Verdict {
+    fn fmt(&self, f: &mut fmt::Formatter<'_>) -> fmt::Result {
+        f.write_str(match self {
+            Verdict::Unknown => "blank",
+            Verdict::Satisfied => "kept",
+            Verdict::Violated => "broken",
+        })
+    }
+}
+
+/// What a call gave: its detail, or the refusal with the number, whose place is the detail.
+fn answer(number: u8, detail: usize) -> Result<usize, Refusal> {
+    match number {
+        0 => Ok(detail),
+        _ => Err(Refusal { reason: Reason::of_number(number), place: detail }),
+    }
+}
+
+/// Calls a function of the archive: slices that it reads, plain numbers, slices that it writes.
+macro_rules! call {
+    ($function:ident($($read:ident),*; $($number:ident),*; $($written:ident),*)) => {{
+        let mut detail = 0;
+        // SAFETY: each slice is lent as its own pointer and length: not null, aligned, and nothing else overlaps what is written,
+        // since that is borrowed alone. The detail is a local. The call keeps no pointer.
+        let number = unsafe {
+            archive::$function(
+                $($read.as_ptr(), $read.len(),)*
+                $($number,)*
+                $($written.as_mut_ptr(), $written.len(),)*
+                &mut detail,
+            )
+        };
+        answer(number, detail)
+    }};
+}
+
+/// Opens the lent state under a policy, whatever the buffers held: nothing is known, and every verdict is blank.
+pub fn open(
+    policy: &[u8],
+    numbers: &mut [u16],
+    facts: &mut [u32],
+    valuation: &mut [u8],
+    verdicts: &mut [u8],
+) -> Result<(), Refusal> {
+    call!(zankezurt_open(policy;; numbers, facts, valuation, verdicts)).map(|_| ())
+}
+
+/// Takes one message, of any bytes, into the lent state; gives how many verdicts stand.
+pub fn receive(
+    policy: &[u8],
+    message: &[u8],
+    numbers: &mut [u16],
+    facts: &mut [u32],
+    valuation: &mut [u8],
+    verdicts: &mut [u8],
+) -> Result<usize, Refusal> {
+    call!(zankezurt_receive(policy, message;; numbers, facts, valuation, verdicts))
+}
+
+/// The verdict of a rule at a minute, from the lent verdict sheet.
+pub fn lookup(policy: &[u8], verdicts: &[u8], rule: usize, minute: usize) -> Result<Verdict, Refusal> {
+    call!(zankezurt_lookup(policy, verdicts; rule, minute;)).map(Verdict::of_code)
+}
+
+#[cfg(test)]
+mod tests {
+    use super::*;
+
+    #[test]
+    fn a_number_without_a_name_is_an_error_value() {
+        let refusal = answer(11, 3).unwrap_err();
+        assert_eq!(refusal, Refusal { reason: Reason::Unnamed(11), place: 3 });
+    }
+}
