@@ -14,6 +14,7 @@ ghost use mathlib.Core.Path.{_≡_};
 ghost use Prim.Native.Nat.{_+_, _*_, _≤_, _<_};
 ghost use lib.ListN.{length};
 ghost use Rattle.release_sheet.specs.Arrays.{Fits, Largest};
+ghost use Rattle.release_sheet.specs.Counting.{tallied};
 
 // The longest policy: 5 bytes of heading and 64 lines of 8.
 const LONGEST_POLICY: usize = 517;
@@ -105,7 +106,7 @@ fn offer(
 // One message more, which starts at a byte of the input; a refusal is told. (An offer is never answered by Done.)
 fn counted(tally: Tally, answer: Answer, start: u64) -> Tally
     requires { ⌜ tally .taken + tally .refused < 18446744073709551615 ⌝ }
-    ensures { λ r. ⌜ r .taken + r .refused ≡ tally .taken + tally .refused + 1 ⌝ }
+    ensures { λ r. ⌜ (r ≡ tallied tally answer) × (r .taken + r .refused ≡ tally .taken + tally .refused + 1) ⌝ }
 {
     match answer {
         Answer::Refused(r) => {

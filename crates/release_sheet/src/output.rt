@@ -2,6 +2,7 @@
 use crate::report;
 use crate::retry;
 use crate::text::put;
+use crate::text::put_labelled;
 use crate::text::put_number;
 use refusal::Refusal;
 ghost use mathlib.Core.Path.{_≡_};
@@ -79,8 +80,7 @@ fn put_minute_and_rule(text: &mut [u8], at: usize, minute: usize, rule: usize) -
     ensures { λ r. ⌜ r ≤ at + 42 ⌝ }
 {
     let after_minute = put_number(text, at, minute as u64);
-    let from_rule = put(text, after_minute, b" ");
-    let after_rule = put_number(text, from_rule, rule as u64);
+    let after_rule = put_labelled(text, after_minute, b" ", rule as u64);
     put(text, after_rule, b" ")
 }
 
@@ -117,12 +117,10 @@ pub fn put_tally(text: &mut [u8], page: Page, taken: u64, refused: u64) -> Page
     ensures { λ r. ⌜ r .at ≤ length (now (text .entry)) ⌝ }
 {
     let room = make_room(text, page);
-    let first = put(text, room.at, b"taken ");
-    let after_first = put_number(text, first, taken);
-    let second = put(text, after_first, b" refused ");
-    let after_second = put_number(text, second, refused);
+    let after_taken = put_labelled(text, room.at, b"taken ", taken);
+    let after_refused = put_labelled(text, after_taken, b" refused ", refused);
     Page {
-        at: put(text, after_second, b"\n"),
+        at: put(text, after_refused, b"\n"),
         whole: room.whole,
     }
 }
@@ -132,10 +130,8 @@ pub fn print_refused(text: &mut [u8], r: Refusal) -> Page
     requires { ⌜ 64 ≤ length (now text) ⌝ }
     ensures { λ r. ⌜ r .at ≡ 0 ⌝ }
 {
-    let number_at = put(text, 0, b"card refused ");
-    let after_number = put_number(text, number_at, refusal::number(r) as u64);
-    let place_at = put(text, after_number, b" at ");
-    let after_place = put_number(text, place_at, refusal::place(r) as u64);
+    let place_at = put_labelled(text, 0, b"card refused ", refusal::number(r) as u64);
+    let after_place = put_labelled(text, place_at, b" at ", refusal::place(r) as u64);
     let end = put(text, after_place, b"\n");
     flush(
         text,

@@ -1,6 +1,6 @@
 // What the program tells on standard error: why a policy or a message was refused, and that its input or its output was cut.
 use crate::text::put;
-use crate::text::put_number;
+use crate::text::put_labelled;
 use refusal::Refusal;
 ghost use mathlib.Core.Path.{_≡_};
 ghost use Prim.Native.Nat.{_+_, _≤_, _<_};
@@ -68,12 +68,9 @@ fn put_refusal(text: &mut [u8], at: usize, start: u64, r: Refusal) -> usize
     requires { ⌜ at + 84 ≤ length (now text) ⌝ }
     ensures { λ r. ⌜ r ≤ at + 84 ⌝ }
 {
-    let start_at = put(text, at, b" at byte ");
-    let after_start = put_number(text, start_at, start);
-    let number_at = put(text, after_start, b" refused ");
-    let after_number = put_number(text, number_at, refusal::number(r) as u64);
-    let place_at = put(text, after_number, b" at ");
-    let after_place = put_number(text, place_at, refusal::place(r) as u64);
+    let number_at = put_labelled(text, at, b" at byte ", start);
+    let place_at = put_labelled(text, number_at, b" refused ", refusal::number(r) as u64);
+    let after_place = put_labelled(text, place_at, b" at ", refusal::place(r) as u64);
     put(text, after_place, b": ")
 }
 
@@ -96,8 +93,7 @@ pub fn policy_refused(start: u64, r: Refusal) {
 // Tells why a message is refused: which one it is, counted from 0, and at which byte of the input it starts.
 pub fn message_refused(index: u64, start: u64, r: Refusal) {
     let mut line = [0u8; 256];
-    let index_at = put(&mut line, 0, b"slip ");
-    let at = put_number(&mut line, index_at, index);
+    let at = put_labelled(&mut line, 0, b"slip ", index);
     tell(&mut line, at, start, r);
 }
 

@@ -20,3 +20,12 @@ pub fn put_number(text: &mut [u8], at: usize, n: u64) -> usize
     let k = io::decimal(n, &mut digits);
     put(text, at, &digits[0..k])
 }
+
+// Puts a word and a number's digits after it, and answers the place after them.
+pub fn put_labelled(text: &mut [u8], at: usize, word: &[u8], n: u64) -> usize
+    requires { ⌜ at + length (now word) + 20 ≤ length (now text) ⌝ }
+    ensures { λ r. ⌜ r ≤ at + length (now (word .entry)) + 20 ⌝ }
+{
+    let digits = put(text, at, word);
+    put_number(text, digits, n)
+}
