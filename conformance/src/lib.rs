@@ -7,6 +7,7 @@
 
 pub mod archive;
 pub mod inputs;
+pub mod process;
 pub mod rounds;
 
 use oracle::{Answer, Buffers, Look};

@@ -1,48 +1,23 @@
-//! The printing program as a process: what it prints is what the oracle prints, byte for byte.
+//! The printing program as a process: what it prints is what the oracle prints, and what it tells on standard error is
+//! what the oracle refuses, byte for byte.
 
 use conformance::inputs::{self, Size};
+use conformance::process::{input, printed, root, show, told, Input};
 use conformance::rounds::{self, Seen};
 use oracle::generate::{self, Limits, Random, LARGEST, MEDIUM, SMALL, TINY};
 use oracle::policy::{MOST_BYTES, MOST_MINUTES};
-use std::io::Write;
-use std::path::{Path, PathBuf};
-use std::process::{Command, Stdio};
-use std::{env, fs, thread};
+use oracle::program::run;
+use std::fs;
 
-fn root() -> PathBuf {
-    Path::new(env!("CARGO_MANIFEST_DIR")).join("..")
-}
-
-/// `target/bin/release_sheet` of the repository, or what ZANKEZURT_PROGRAM says.
-fn program() -> PathBuf {
-    let built = || root().join("target/bin/release_sheet");
-    let program = env::var("ZANKEZURT_PROGRAM").map_or_else(|_| built(), PathBuf::from);
-    assert!(program.exists(), "no {}: run `rt check release_sheet` first", program.display());
-    program
-}
-
-/// What the program prints for this standard input, which reaches it through a pipe and in pieces.
-fn printed(input: &[u8]) -> Vec<u8> {
-    let mut command = Command::new(program());
-    command.stdin(Stdio::piped()).stdout(Stdio::piped()).stderr(Stdio::piped());
-    let mut child = command.spawn().unwrap();
-    let mut stdin = child.stdin.take().unwrap();
-    let output = thread::scope(|scope| {
-        // The program may end before it has read everything, where the policy is refused.
-        scope.spawn(move || input.chunks(1 + input.len() / 3).all(|piece| stdin.write_all(piece).is_ok()));
-        child.wait_with_output().unwrap()
-    });
-    assert!(output.status.success() && output.stderr.is_empty(), "{output:?} for {input:?}");
-    output.stdout
-}
-
-/// Runs the program and the oracle, which must print the same.
+/// Runs the program and the oracle, which must print and refuse the same.
 fn compare(input: &[u8], seen: &mut Seen) {
-    let text = printed(input);
-    let expected = oracle::program(input);
-    let show = |text: &[u8]| String::from_utf8_lossy(text).into_owned();
-    assert!(text == expected, "program\n{}oracle\n{}input {input:?}", show(&text), show(&expected));
-    tell(&show(&text), seen);
+    let output = printed(input);
+    let expected = run(input);
+    let (text, errors) = (show(&output.stdout), show(&output.stderr));
+    assert!(text == expected.text, "program\n{text}oracle\n{}input {input:?}", expected.text);
+    let refused = told(&expected.refused);
+    assert!(errors == refused, "told\n{errors}expected\n{refused}input {input:?}");
+    tell(&text, seen);
 }
 
 fn tell(text: &str, seen: &mut Seen) {
@@ -59,26 +34,6 @@ fn tell(text: &str, seen: &mut Seen) {
             _ => panic!("a line of another kind: {line}"),
         }
     }
-}
-
-/// A standard input, and where in it each message ends.
-struct Input {
-    bytes: Vec<u8>,
-    policy_end: usize,
-    ends: Vec<usize>,
-}
-
-fn input(policy: &[u8], messages: &[Vec<u8>]) -> Input {
-    let mut bytes = (policy.len() as u16).to_le_bytes().to_vec();
-    bytes.extend(policy);
-    let policy_end = bytes.len();
-    let mut ends = Vec::new();
-    for message in messages {
-        bytes.push(message.len() as u8);
-        bytes.extend(message);
-        ends.push(bytes.len());
-    }
-    Input { bytes, policy_end, ends }
 }
 
 /// What each job does: how many inputs on policies of which limits, and messages in one.
@@ -197,7 +152,7 @@ fn long_noise(random: &mut Random) -> Vec<u8> {
 fn the_demo() {
     for name in ["small-shift", "bakery"] {
         let file = |ending: &str| fs::read(root().join("demo").join(format!("{name}.{ending}"))).unwrap();
-        assert_eq!(printed(&file("bin")), file("txt"), "{name}");
-        assert_eq!(oracle::program(&file("bin")), file("txt"), "{name}");
+        assert_eq!(show(&printed(&file("bin")).stdout), show(&file("txt")), "{name}");
+        assert_eq!(run(&file("bin")).text, show(&file("txt")), "{name}");
     }
 }

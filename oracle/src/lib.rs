@@ -37,5 +37,4 @@ pub mod truth;
 pub use knowledge::Buffers;
 pub use monitor::{lookup, open, receive, Answer, Look};
 pub use policy::Policy;
-pub use program::program;
 pub use refusal::Refusal;

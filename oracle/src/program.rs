@@ -9,30 +9,53 @@ use crate::refusal::{Refusal, TRUNCATED_POLICY};
 
 const POLICY_LENGTH_BYTES: usize = 2;
 
-/// What the printing program prints for this standard input: "card length (2 bytes), card, then slips, each after one
-/// length byte, to the end".
-pub fn program(input: &[u8]) -> Vec<u8> {
-    match run(input) {
-        Ok(text) => text.into_bytes(),
-        Err(Refusal { number, place }) => format!("card refused {number} at {place}\n").into_bytes(),
+/// What the printing program does with a standard input.
+pub struct Run {
+    /// What it prints.
+    pub text: String,
+    /// What it refuses, in order.
+    pub refused: Vec<Refused>,
+}
+
+/// A policy or a message that is refused.
+pub struct Refused {
+    /// The message's number, from 0; none for the policy.
+    pub message: Option<usize>,
+    /// The place in the input of its first byte.
+    pub start: usize,
+    pub refusal: Refusal,
+}
+
+/// "Card length (2 bytes), card, then slips, each after one length byte, to the end."
+pub fn run(input: &[u8]) -> Run {
+    match taken(input) {
+        Ok(run) => run,
+        Err(refusal) => {
+            let text = format!("card refused {} at {}\n", refusal.number, refusal.place);
+            let start = input.len().min(POLICY_LENGTH_BYTES);
+            Run { text, refused: vec![Refused { message: None, start, refusal }] }
+        }
     }
 }
 
-fn run(input: &[u8]) -> Result<String, Refusal> {
+fn taken(input: &[u8]) -> Result<Run, Refusal> {
     let (bytes, rest) = policy_piece(input)?;
     let policy = policy::read(bytes)?;
     let mut buffers = Buffers::sized(&policy);
     if let Answer::Refused(refusal) = open(bytes, &mut buffers) {
         return Err(refusal);
     }
-    let (mut taken, mut refused) = (0, 0);
-    for message in pieces(rest) {
-        match receive(bytes, message, &mut buffers) {
-            Answer::Refused(_) => refused += 1,
-            _ => taken += 1,
+    let messages = pieces(rest);
+    let mut refused = Vec::new();
+    for (number, message) in messages.iter().enumerate() {
+        if let Answer::Refused(refusal) = receive(bytes, message.bytes, &mut buffers) {
+            let start = input.len() - rest.len() + message.start;
+            refused.push(Refused { message: Some(number), start, refusal });
         }
     }
-    Ok(format!("{}taken {taken} refused {refused}\n", print_verdicts(&policy, &buffers)))
+    let verdicts = print_verdicts(&policy, &buffers);
+    let tally = format!("taken {} refused {}\n", messages.len() - refused.len(), refused.len());
+    Ok(Run { text: verdicts + &tally, refused })
 }
 
 /// The policy's bytes, and what follows them. "With fewer than 2 bytes of length the card is empty"; "a length above
@@ -49,12 +72,19 @@ fn policy_piece(input: &[u8]) -> Result<(&[u8], &[u8]), Refusal> {
     Ok(piece(length, rest))
 }
 
+/// A message's bytes, and where they start.
+struct Piece<'a> {
+    start: usize,
+    bytes: &'a [u8],
+}
+
 /// The messages, each after its length byte.
-fn pieces(mut rest: &[u8]) -> Vec<&[u8]> {
+fn pieces(bytes: &[u8]) -> Vec<Piece<'_>> {
     let mut messages = Vec::new();
+    let mut rest = bytes;
     while let Some((length, after)) = rest.split_first() {
         let (message, next) = piece(*length as usize, after);
-        messages.push(message);
+        messages.push(Piece { start: bytes.len() - after.len(), bytes: message });
         rest = next;
     }
     messages

@@ -4,8 +4,9 @@
 use oracle::generate::{self, Limits, Random, LARGEST, MEDIUM, SMALL, TINY};
 use oracle::knowledge::{sound, time_points, time_points_of_many};
 use oracle::policy::{Formula, Policy};
+use oracle::program::run;
 use oracle::reading::{two_valued_verdicts, valuation, valuation_of_many, verdicts};
-use oracle::{lookup, message, open, policy, program, receive, Answer, Buffers, Look};
+use oracle::{lookup, message, open, policy, receive, Answer, Buffers, Look};
 
 #[test]
 fn encodings_are_read_back() {
@@ -155,7 +156,7 @@ fn program_inputs_of_every_kind() {
     let mut random = Random::new(16);
     let (mut refused, mut verdicts) = (0, 0);
     for _ in 0..400 {
-        let text = String::from_utf8(program(&generate::program_input(&mut random, &SMALL, 12))).unwrap();
+        let text = run(&generate::program_input(&mut random, &SMALL, 12)).text;
         let last = text.lines().last().unwrap();
         assert!(text.ends_with('\n') && (last.starts_with("taken ") || last.starts_with("card refused ")));
         refused += usize::from(text.starts_with("card refused "));
@@ -168,5 +169,5 @@ fn program_inputs_of_every_kind() {
 #[test]
 fn a_program_input_whose_policy_is_cut_to_nothing() {
     let input = generate::program_input(&mut Random::new(7508), &TINY, 0);
-    assert!(program(&input).starts_with(b"card refused 1 at "), "{input:?}");
+    assert!(run(&input).text.starts_with("card refused 1 at "), "{input:?}");
 }

@@ -1,8 +1,9 @@
 //! "A small shift to check by", every case of it, and the printing example.
 
+use oracle::program::run;
 use oracle::reading::Verdict;
 use oracle::refusal::{BAD_MESSAGE, CONFLICT, OUT_OF_RANGE, TRUNCATED_MESSAGE};
-use oracle::{lookup, open, policy, program, receive, Answer, Buffers, Look, Refusal};
+use oracle::{lookup, open, policy, receive, Answer, Buffers, Look, Refusal};
 
 /// Mark 0 at some time in the last 2 minutes.
 const K: &[u8] = &[0x01, 0x01, 0x04, 0x00, 0x03, 0x00, 0x01, 0x01, 0x35, 0x04, 0x01, 0x02, 0x00];
@@ -178,7 +179,7 @@ fn input(policy: &[u8], messages: &[&[u8]]) -> Vec<u8> {
 }
 
 fn printed(input: &[u8]) -> String {
-    String::from_utf8(program(input)).unwrap()
+    run(input).text
 }
 
 #[test]
@@ -211,4 +212,15 @@ fn printing_with_cut_and_refused_input() {
     assert_eq!(printed(&whole[..whole.len() - 1]), "0 0 broken\n2 0 kept\ntaken 2 refused 1\n");
     assert_eq!(printed(&whole[..whole.len() - 5]), "0 0 broken\n2 0 kept\ntaken 2 refused 1\n");
     assert_eq!(printed(&whole[..whole.len() - 6]), "0 0 broken\n2 0 kept\ntaken 2 refused 0\n");
+}
+
+#[test]
+fn what_is_refused_has_its_number_and_its_start() {
+    let refused = |input: &[u8]| -> Vec<(Option<usize>, usize, u8)> {
+        run(input).refused.iter().map(|refused| (refused.message, refused.start, refused.refusal.number)).collect()
+    };
+    // The policy's length and its 13 bytes, A after its length byte, a length byte.
+    assert_eq!(refused(&input(K, &[A, &[], A, &[0x00]])), [(Some(1), 25, 7), (Some(3), 35, 8)]);
+    assert_eq!(refused(&[0x0D]), [(None, 1, 1)]);
+    assert_eq!(refused(&input(&[0x00; 5], &[])), [(None, 2, 2)]);
 }

@@ -1,2 +1,3 @@
--- What the printing program holds.
+-- What the printing program holds, and how it counts.
 pub mod Arrays
+pub mod Counting

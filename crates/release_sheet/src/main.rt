@@ -2,13 +2,19 @@
 // messages, each after one length byte, to the end; a piece that the end cuts is offered as it is.
 mod input;
 mod output;
+mod report;
+mod retry;
+mod text;
 
 use input::Window;
 use monitor::Answer;
+use output::Page;
+use refusal::Refusal;
 ghost use mathlib.Core.Path.{_≡_};
 ghost use Prim.Native.Nat.{_+_, _*_, _≤_, _<_};
 ghost use lib.ListN.{length};
 ghost use Rattle.release_sheet.specs.Arrays.{Fits, Largest};
+ghost use Rattle.release_sheet.specs.Counting.{tallied};
 
 // The longest policy: 5 bytes of heading and 64 lines of 8.
 const LONGEST_POLICY: usize = 517;
@@ -29,13 +35,6 @@ struct Tally {
     refused: u64,
 }
 
-// A number, or the most that it can be. Every policy that is read has its sizes within these bounds, so no size is ever changed.
-fn at_most(most: usize, n: usize) -> usize
-    ensures { λ r. ⌜ r ≤ most ⌝ }
-{
-    if n < most { n } else { most }
-}
-
 // What the policy needs; a refused one needs nothing.
 fn parts_of(policy: &[u8]) -> Parts
     ensures { λ r. ⌜ Fits r ⌝ }
@@ -43,17 +42,14 @@ fn parts_of(policy: &[u8]) -> Parts
     let decoded = policy::decode(policy);
     let read = decoded.policy;
     let sizes = read.sizes;
-    let components = at_most(16, sizes.components);
-    let minutes = at_most(1024, sizes.minutes);
-    let count = at_most(64, read.count);
-    let rules = at_most(8, read.rules);
+    let minutes = sizes.minutes;
     Parts {
-        numbers: components * (minutes + 1),
+        numbers: sizes.components * (minutes + 1),
         facts: 2 * minutes,
-        valuation: count * minutes,
-        verdicts: rules * minutes,
+        valuation: read.count * minutes,
+        verdicts: read.rules * minutes,
         minutes: minutes,
-        rules: rules,
+        rules: read.rules,
     }
 }
 
@@ -81,7 +77,7 @@ fn open_parts(
     )
 }
 
-// Offers one message, and answers whether it was received.
+// Offers one message.
 fn offer(
     policy: &[u8],
     message: &[u8],
@@ -90,30 +86,48 @@ fn offer(
     facts: &mut [u32],
     valuation: &mut [u8],
     verdicts: &mut [u8],
-) -> bool
+) -> Answer
     requires { ⌜ Fits parts × Largest (now numbers) (now facts) (now valuation) (now verdicts) ⌝ }
 {
     let n = parts.numbers;
     let f = parts.facts;
     let v = parts.valuation;
     let d = parts.verdicts;
-    let answer = monitor::receive(
+    monitor::receive(
         policy,
         message,
         &mut numbers[0..n],
         &mut facts[0..f],
         &mut valuation[0..v],
         &mut verdicts[0..d],
-    );
+    )
+}
+
+// One message more, which starts at a byte of the input; a refusal is told. (An offer is never answered by Done.)
+fn counted(tally: Tally, answer: Answer, start: u64) -> Tally
+    requires { ⌜ tally .taken + tally .refused < 18446744073709551615 ⌝ }
+    ensures { λ r. ⌜ (r ≡ tallied tally answer) × (r .taken + r .refused ≡ tally .taken + tally .refused + 1) ⌝ }
+{
     match answer {
-        Answer::Received { standing: _ } => true,
-        Answer::Refused(_) => false,
-        Answer::Done => false,
+        Answer::Refused(r) => {
+            report::message_refused(tally.taken + tally.refused, start, r);
+            Tally {
+                taken: tally.taken,
+                refused: tally.refused + 1,
+            }
+        }
+        Answer::Received { standing: _ } => Tally {
+            taken: tally.taken + 1,
+            refused: tally.refused,
+        },
+        Answer::Done => Tally {
+            taken: tally.taken,
+            refused: tally.refused + 1,
+        },
     }
 }
 
-// Offers every message of the input. A proved loop has to end, and nothing says that the input does: the loop counts its turns down, from
-// a number that no run uses up.
+// Offers every message of the input.
 fn receive_all(
     policy: &[u8],
     parts: Parts,
@@ -126,9 +140,11 @@ fn receive_all(
 ) -> Tally
     requires { ⌜ Fits parts × Largest (now numbers) (now facts) (now valuation) (now verdicts) × (window .at ≤ window .end) × (window .end ≤ length (now buffer)) ⌝ }
 {
-    let mut taken: u64 = 0;
-    let mut refused: u64 = 0;
-    let mut turns = u64::MAX;
+    let mut tally = Tally {
+        taken: 0,
+        refused: 0,
+    };
+    let mut turns = retry::TURNS;
     let mut w = window;
     while turns > 0 {
         w = input::ready(buffer, w);
@@ -139,7 +155,9 @@ fn receive_all(
         }
         let from = at + 1;
         let to = input::piece_end(from, wide(buffer[at]), end);
-        if offer(
+        w.at = from;
+        let start = input::position(w);
+        let answer = offer(
             policy,
             &buffer[from..to],
             parts,
@@ -147,18 +165,12 @@ fn receive_all(
             facts,
             valuation,
             verdicts,
-        ) {
-            taken += 1;
-        } else {
-            refused += 1;
-        }
+        );
+        tally = counted(tally, answer, start);
         w.at = to;
         turns -= 1;
     }
-    Tally {
-        taken: taken,
-        refused: refused,
-    }
+    tally
 }
 
 fn wide(b: u8) -> usize {
@@ -166,45 +178,46 @@ fn wide(b: u8) -> usize {
 }
 
 // The verdicts of one minute, by rule.
-fn put_minute(verdicts: &[u8], parts: Parts, minute: usize, text: &mut [u8], at: usize) -> usize
-    requires { ⌜ Fits parts × (length (now verdicts) ≡ 8192) × (minute < parts .minutes) × (at ≤ length (now text)) × (64 ≤ length (now text)) ⌝ }
-    ensures { λ r. ⌜ r ≤ length (now (text .entry)) ⌝ }
+fn put_minute(verdicts: &[u8], parts: Parts, minute: usize, text: &mut [u8], page: Page) -> Page
+    requires { ⌜ Fits parts × (length (now verdicts) ≡ 8192) × (minute < parts .minutes) × (page .at ≤ length (now text)) × (64 ≤ length (now text)) ⌝ }
+    ensures { λ r. ⌜ r .at ≤ length (now (text .entry)) ⌝ }
 {
     let rules = parts.rules;
     let minutes = parts.minutes;
-    let mut end = at;
+    let mut sheet = page;
     let mut cell = minute;
     let mut rule = 0;
     while rule < rules {
-        end = output::put_verdict(text, end, minute, rule, verdicts[cell]);
+        sheet = output::put_verdict(text, sheet, minute, rule, verdicts[cell]);
         cell += minutes;
         rule += 1;
     }
-    end
+    sheet
 }
 
 // The verdicts, by minute and then by rule.
-fn put_verdicts(verdicts: &[u8], parts: Parts, text: &mut [u8]) -> usize
+fn put_verdicts(verdicts: &[u8], parts: Parts, text: &mut [u8]) -> Page
     requires { ⌜ Fits parts × (length (now verdicts) ≡ 8192) × (64 ≤ length (now text)) ⌝ }
-    ensures { λ r. ⌜ r ≤ length (now (text .entry)) ⌝ }
+    ensures { λ r. ⌜ r .at ≤ length (now (text .entry)) ⌝ }
 {
     let minutes = parts.minutes;
-    let mut end = 0;
+    let mut sheet = Page { at: 0, whole: true };
     let mut minute = 0;
     while minute < minutes {
-        end = put_minute(verdicts, parts, minute, text, end);
+        sheet = put_minute(verdicts, parts, minute, text, sheet);
         minute += 1;
     }
-    end
+    sheet
 }
 
-// Prints the verdicts and the tally.
-fn print_sheet(verdicts: &[u8], parts: Parts, tally: Tally, text: &mut [u8])
+// Prints the verdicts and the tally; nothing is left in the text.
+fn print_sheet(verdicts: &[u8], parts: Parts, tally: Tally, text: &mut [u8]) -> Page
     requires { ⌜ Fits parts × (length (now verdicts) ≡ 8192) × (64 ≤ length (now text)) ⌝ }
+    ensures { λ r. ⌜ r .at ≡ 0 ⌝ }
 {
     let last = put_verdicts(verdicts, parts, text);
     let end = output::put_tally(text, last, tally.taken, tally.refused);
-    output::flush(text, end);
+    output::flush(text, end)
 }
 
 // Receives the messages and prints the sheet.
@@ -234,9 +247,18 @@ fn watch(
     print_sheet(verdicts, parts, tally, text);
 }
 
-// Opens the policy; then the messages follow, or the line that says why the policy is refused.
+// Prints that the policy, which starts at a byte of the input, is refused, and tells why.
+fn refuse_policy(start: u64, r: Refusal, text: &mut [u8])
+    requires { ⌜ 64 ≤ length (now text) ⌝ }
+{
+    report::policy_refused(start, r);
+    output::print_refused(text, r);
+}
+
+// Opens the policy; then the messages follow, or the line that says that the policy is refused.
 fn run(
     policy: &[u8],
+    start: u64,
     buffer: &mut [u8],
     window: Window,
     numbers: &mut [u16],
@@ -251,7 +273,7 @@ fn run(
     let answer = open_parts(policy, parts, numbers, facts, valuation, verdicts);
     match answer {
         Answer::Refused(r) => {
-            output::print_refused(text, refusal::number(r), refusal::place(r));
+            refuse_policy(start, r, text);
         }
         Answer::Done => {
             watch(
@@ -292,7 +314,7 @@ fn main() {
     let end = window.end;
     let length = policy_length(&buffer, end);
     if length > LONGEST_POLICY {
-        output::print_refused(&mut text, 1, LONGEST_POLICY);
+        refuse_policy(2, Refusal::TruncatedPolicy(LONGEST_POLICY), &mut text);
         return;
     }
     let from = input::piece_end(0, 2, end);
@@ -302,9 +324,11 @@ fn main() {
         at: to,
         end: end,
         more: window.more,
+        before: window.before,
     };
     run(
         &policy[0..n],
+        from as u64,
         &mut buffer,
         rest,
         &mut numbers,

@@ -18,11 +18,11 @@ slice-aggregate-policy-length c = search needs
 policy-length-requires : tie.Need-policy-length-requires
 policy-length-requires c κs = search needs
 
-slice-aggregate-print-refused : tie.Need-slice-aggregate-print-refused
-slice-aggregate-print-refused c = search needs
+slice-aggregate-refuse-policy : tie.Need-slice-aggregate-refuse-policy
+slice-aggregate-refuse-policy c = search needs
 
-print-refused-requires : tie.Need-print-refused-requires
-print-refused-requires c κs = search needs
+refuse-policy-requires : tie.Need-refuse-policy-requires
+refuse-policy-requires c κs = search needs
 
 returns : tie.Need-returns
 returns c = search needs
@@ -99,8 +99,8 @@ main-spec =
     start-requires
     slice-aggregate-policy-length
     policy-length-requires
-    slice-aggregate-print-refused
-    print-refused-requires
+    slice-aggregate-refuse-policy
+    refuse-policy-requires
     returns
     piece-end-requires
     piece-end-requires-2

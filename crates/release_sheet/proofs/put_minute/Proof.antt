@@ -10,11 +10,11 @@ use Rattle.release_sheet.proofs.put_minute.Statement.{statement}
 use Rattle.release_sheet.proofs.put_minute.Tie as tie
 
 abbrev Inv-loop : tie.InvT-loop
-Inv-loop verdicts minute text₀ at rules minutes end₀ cell₀ rule₀ text end cell rule =
-    (cell ≡ rule * minutes + minute) × (rule ≤ rules) × (end ≤ length text) × (length text ≡ length text₀)
+Inv-loop verdicts minute text₀ rules minutes sheet₀ cell₀ rule₀ text sheet cell rule =
+    (cell ≡ rule * minutes + minute) × (rule ≤ rules) × (sheet .at ≤ length text) × (length text ≡ length text₀)
 
 abbrev μ-loop : tie.MeasureT-loop
-μ-loop verdicts minute text₀ at rules minutes end₀ cell₀ rule₀ text end cell rule = rules - rule
+μ-loop verdicts minute text₀ rules minutes sheet₀ cell₀ rule₀ text sheet cell rule = rules - rule
 
 -- one row more
 next-row : (rule minutes : ℕ) → (rule + 1) * minutes ≡ rule * minutes + minutes

@@ -7,10 +7,10 @@ use Rattle.release_sheet.proofs.put_verdicts.Statement.{statement}
 use Rattle.release_sheet.proofs.put_verdicts.Tie as tie
 
 abbrev Inv-loop : tie.InvT-loop
-Inv-loop verdicts parts text₀ minutes end₀ minute₀ text end minute = (minute ≤ minutes) × (end ≤ length text) × (length text ≡ length text₀)
+Inv-loop verdicts parts text₀ minutes sheet₀ minute₀ text sheet minute = (minute ≤ minutes) × (sheet .at ≤ length text) × (length text ≡ length text₀)
 
 abbrev μ-loop : tie.MeasureT-loop
-μ-loop verdicts parts text₀ minutes end₀ minute₀ text end minute = minutes - minute
+μ-loop verdicts parts text₀ minutes sheet₀ minute₀ text sheet minute = minutes - minute
 
 loop-holds : tie.Need-loop-holds Inv-loop μ-loop
 loop-holds c = search needs

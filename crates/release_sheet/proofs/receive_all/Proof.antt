@@ -2,20 +2,18 @@
 -- that are left, which are the measure, and adds one to what was taken or refused. Assumes nothing.
 use Prim.Native.Nat.{_+_, _≤_}
 use mathlib.Core.Path.{_≡_}
-use mathlib.Core.Logic.{⊎-elim}
-use native.Mathlib.Omega.{arith}
-use borrow.Author.Needs.{needs}
 use lib.ListN.{length}
 use Rattle.release_sheet.specs.Arrays.{Largest}
+use borrow.Author.Needs.{needs}
 use Rattle.release_sheet.proofs.receive_all.Statement.{statement}
 use Rattle.release_sheet.proofs.receive_all.Tie as tie
 
 abbrev Inv-loop : tie.InvT-loop
-Inv-loop policy parts buffer₀ numbers₀ facts₀ valuation₀ verdicts₀ taken₀ refused₀ turns₀ w₀ buffer numbers facts valuation verdicts taken refused turns w =
-    (taken + refused + turns ≡ 18446744073709551615) × (w .at ≤ w .end) × (w .end ≤ length buffer) × (length buffer ≡ length buffer₀) × Largest numbers facts valuation verdicts
+Inv-loop policy parts buffer₀ numbers₀ facts₀ valuation₀ verdicts₀ tally₀ turns₀ w₀ buffer numbers facts valuation verdicts tally turns w =
+    (tally .taken + tally .refused + turns ≡ 18446744073709551615) × (w .at ≤ w .end) × (w .end ≤ length buffer) × (length buffer ≡ length buffer₀) × Largest numbers facts valuation verdicts
 
 abbrev μ-loop : tie.MeasureT-loop
-μ-loop policy parts buffer₀ numbers₀ facts₀ valuation₀ verdicts₀ taken₀ refused₀ turns₀ w₀ buffer numbers facts valuation verdicts taken refused turns w =
+μ-loop policy parts buffer₀ numbers₀ facts₀ valuation₀ verdicts₀ tally₀ turns₀ w₀ buffer numbers facts valuation verdicts tally turns w =
     turns
 
 loop-holds : tie.Need-loop-holds Inv-loop μ-loop
@@ -36,6 +34,9 @@ wide-requires c κs = search needs
 piece-end-requires : tie.Need-piece-end-requires Inv-loop μ-loop
 piece-end-requires c κs = search needs
 
+position-requires : tie.Need-position-requires Inv-loop μ-loop
+position-requires c κs = search needs
+
 sub-offer : tie.Need-sub-offer Inv-loop μ-loop
 sub-offer c = search needs
 
@@ -48,11 +49,8 @@ part-offer-end c = search needs
 offer-requires : tie.Need-offer-requires Inv-loop μ-loop
 offer-requires c κs = search needs
 
-add-taken : tie.Need-add-taken Inv-loop μ-loop
-add-taken c = search needs
-
-add-refused : tie.Need-add-refused Inv-loop μ-loop
-add-refused c = search needs
+counted-requires : tie.Need-counted-requires Inv-loop μ-loop
+counted-requires c κs = search needs
 
 sub-turns : tie.Need-sub-turns Inv-loop μ-loop
 sub-turns c = search needs
@@ -61,7 +59,7 @@ loop-less : tie.Need-loop-less Inv-loop μ-loop
 loop-less c = search needs
 
 loop-again : tie.Need-loop-again Inv-loop μ-loop
-loop-again c = ⊎-elim (λ w. omega arith) (λ w. omega arith) (c .if2 .came)
+loop-again c = search needs
 
 same-length : tie.Need-same-length Inv-loop μ-loop
 same-length c = search needs
@@ -111,12 +109,12 @@ receive-all-spec =
     slice-read-wide
     wide-requires
     piece-end-requires
+    position-requires
     sub-offer
     part-offer-start
     part-offer-end
     offer-requires
-    add-taken
-    add-refused
+    counted-requires
     sub-turns
     loop-less
     loop-again

@@ -1,4 +1,4 @@
--- `output::put_number` is safe: a number below 2 ^ 64 has at most 20 digits. Assumes nothing.
+-- `text::put_number` is safe: a number below 2 ^ 64 has at most 20 digits. Assumes nothing.
 use Prim.Native.Nat.{ℕ, _+_, _-_, _^_, _<_, _≤_}
 use native.Mathlib.Nat.{pow-le-pow-right}
 use native.Mathlib.Decide.{decLe}
@@ -6,8 +6,8 @@ use native.Mathlib.Omega.{arith}
 use lib.ListN.{length-take}
 use Rattle.io.specs.Digits.{Fewest}
 use borrow.Author.Needs.{needs}
-use Rattle.release_sheet.proofs.output.put_number.Statement.{statement}
-use Rattle.release_sheet.proofs.output.put_number.Tie as tie
+use Rattle.release_sheet.proofs.text.put_number.Statement.{statement}
+use Rattle.release_sheet.proofs.text.put_number.Tie as tie
 
 -- 10 ^ 20 is more than 2 ^ 64
 few : (n k : ℕ) → n < 2 ^ 64 → Fewest 10 1 n k → k ≤ 20

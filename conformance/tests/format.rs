@@ -1,0 +1,150 @@
+//! The examples of docs/FORMAT.md, read out of the document: the archive and the program do with them what it says.
+
+use conformance::inputs::{self, Size};
+use conformance::process::{printed, root, show};
+use oracle::generate::Random;
+use oracle::reading::Verdict;
+use oracle::{Answer, Buffers, Look, Refusal};
+use std::fs;
+use std::process::Command;
+
+fn document() -> String {
+    fs::read_to_string(root().join("docs/FORMAT.md")).unwrap()
+}
+
+/// The document from this heading to the next one.
+fn section(title: &str) -> String {
+    let document = document();
+    let body = document.lines().skip_while(|line| *line != title).skip(1);
+    let lines: Vec<&str> = body.take_while(|line| !line.starts_with('#')).collect();
+    assert!(!lines.is_empty(), "no section {title}");
+    lines.join("\n")
+}
+
+/// The blocks between fences.
+fn blocks(section: &str) -> Vec<&str> {
+    section.split("```").skip(1).step_by(2).map(|block| block.strip_prefix("text\n").unwrap()).collect()
+}
+
+/// Bytes in hexadecimal.
+fn bytes(text: &str) -> Vec<u8> {
+    text.split_whitespace().map(|byte| u8::from_str_radix(byte, 16).unwrap()).collect()
+}
+
+/// The bytes of a worked example: those before the first double space of each line.
+fn worked(block: &str) -> Vec<u8> {
+    block.lines().flat_map(|line| bytes(line.split("  ").next().unwrap())).collect()
+}
+
+/// The cells of each row of the table with this heading.
+fn rows(section: &str, heading: &str) -> Vec<Vec<String>> {
+    let cells = |row: &str| row.trim_matches('|').split('|').map(|cell| cell.trim().to_string()).collect();
+    let body = section.lines().skip_while(|line| !line.starts_with(heading)).skip(2);
+    let rows: Vec<Vec<String>> = body.take_while(|line| line.starts_with('|')).map(cells).collect();
+    assert!(!rows.is_empty(), "no table {heading}");
+    rows
+}
+
+fn worked_policy() -> Vec<u8> {
+    worked(blocks(&section("### A worked policy"))[0])
+}
+
+/// The policy of the worked input.
+fn small_policy() -> Vec<u8> {
+    let input = worked(blocks(&section("## The printing program's input"))[0]);
+    input[2..][..input[0] as usize].to_vec()
+}
+
+fn sized(policy: &[u8]) -> Buffers {
+    Buffers::sized(&oracle::policy::read(policy).unwrap())
+}
+
+/// Buffers as a column of the document counts them.
+fn counted(column: usize) -> Buffers {
+    let rows = rows(&section("## The buffers"), "| buffer |");
+    let cells = |row: usize| rows[row][column].replace(',', "").parse().unwrap();
+    Buffers {
+        numbers: vec![0; cells(0)],
+        facts: vec![0; cells(1)],
+        valuation: vec![0; cells(2)],
+        verdicts: vec![0; cells(3)],
+    }
+}
+
+/// A refusal as the document writes it, "7 at 3".
+fn refused(text: &str) -> Answer {
+    let (number, place) = text.split_once(" at ").unwrap();
+    Answer::Refused(Refusal { number: number.parse().unwrap(), place: place.parse().unwrap() })
+}
+
+/// The bytes in a cell of a table, none where it holds no code.
+fn cell_bytes(cell: &str) -> Vec<u8> {
+    cell.strip_prefix('`').map_or(Vec::new(), |code| bytes(code.strip_suffix('`').unwrap()))
+}
+
+#[test]
+fn the_worked_policy_is_the_bakerys_and_opens_over_buffers_as_counted() {
+    let policy = worked_policy();
+    assert_eq!(policy, fs::read(root().join("demo/bakery.bin")).unwrap()[2..][..policy.len()]);
+    assert_eq!(conformance::open(&policy, &mut counted(3)), Answer::Done);
+}
+
+#[test]
+fn the_largest_policy_opens_over_buffers_as_counted() {
+    let largest = inputs::policy(&mut Random::new(1), Size::Largest);
+    let policy = oracle::generate::encode_policy(&largest);
+    assert_eq!(conformance::open(&policy, &mut counted(4)), Answer::Done);
+}
+
+#[test]
+fn the_worked_messages_are_taken() {
+    let text = section("### A worked message");
+    let words: Vec<&str> = text.split_whitespace().collect();
+    assert!(words.join(" ").contains("2 verdicts stand: at minute 10 rule 0 is kept, and so is rule 1."));
+    let policy = worked_policy();
+    let mut buffers = sized(&policy);
+    conformance::open(&policy, &mut buffers);
+    let messages: Vec<Vec<u8>> = blocks(&text).into_iter().map(worked).collect();
+    assert_eq!(conformance::receive(&policy, &messages[0], &mut buffers), Answer::Received(2));
+    for rule in [0, 1] {
+        let look = conformance::lookup(&policy, &buffers.verdicts, rule, 10);
+        assert_eq!(look, Look::Verdict(Verdict::Satisfied));
+    }
+    assert_eq!(conformance::receive(&policy, &messages[1], &mut buffers), Answer::Received(2));
+}
+
+#[test]
+fn the_worked_input_prints_what_the_document_says() {
+    let text = section("## The printing program's input");
+    let blocks = blocks(&text);
+    assert_eq!(show(&printed(&worked(blocks[0])).stdout), blocks[1]);
+}
+
+#[test]
+fn the_policies_are_answered_as_the_document_says() {
+    for row in rows(&section("## What is refused"), "| policy |") {
+        let answer = conformance::open(&cell_bytes(&row[0]), &mut sized(&small_policy()));
+        let expected = if row[1] == "done" { Answer::Done } else { refused(&row[1]) };
+        assert_eq!(answer, expected, "{row:?}");
+    }
+}
+
+#[test]
+fn the_messages_are_answered_as_the_document_says() {
+    let policy = small_policy();
+    for row in rows(&section("## What is refused"), "| message |") {
+        let mut buffers = sized(&policy);
+        conformance::open(&policy, &mut buffers);
+        let answer = conformance::receive(&policy, &cell_bytes(&row[0]), &mut buffers);
+        let taken = matches!(answer, Answer::Received(_));
+        assert!(if row[1] == "taken" { taken } else { answer == refused(&row[1]) }, "{row:?}: {answer:?}");
+    }
+}
+
+/// The script is written from the document alone.
+#[test]
+fn the_script_writes_the_demo() {
+    let output = Command::new("python3").arg(root().join("demo/make_bakery.py")).output().unwrap();
+    assert!(output.status.success(), "{output:?}");
+    assert_eq!(output.stdout, fs::read(root().join("demo/bakery.bin")).unwrap());
+}

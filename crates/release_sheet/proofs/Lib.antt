@@ -1,0 +1,2 @@
+-- What the program's proofs share.
+pub mod Bounded

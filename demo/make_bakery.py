@@ -1,0 +1,82 @@
+#!/usr/bin/env python3
+"""Writes the demo's input, bakery.bin, to standard output. It is written from docs/FORMAT.md alone."""
+import struct
+import sys
+
+TRUE, PROPOSITION, NOT, OR, SINCE, UNTIL = range(6)
+
+
+def fields(flags, *parts):
+    """A map byte, and after it each field that is not 0; bit k of the map is the k-th field's."""
+    present = [(bit, form, value) for bit, (form, value) in enumerate(parts) if value]
+    heading = sum(1 << bit for bit, _, _ in present) | flags
+    return bytes([heading]) + b"".join(struct.pack("<" + form, value) for _, form, value in present)
+
+
+def subformula(kind, first=0, second=0, lower=0, upper=0, rule=False):
+    return fields(rule << 5, ("B", kind), ("B", first), ("B", second), ("H", lower), ("H", upper))
+
+
+def observation(component, minute, number, **told):
+    """What a component saw: each proposition that is told, by its name."""
+    values = {NAMES.index(name): value for name, value in told.items()}
+    known = sum(1 << k for k in values)
+    bits = sum(values[k] << place for place, k in enumerate(sorted(values)))
+    start = fields(0, ("B", component), ("H", minute), ("H", number), ("I", known))
+    return start + bits.to_bytes((len(values) + 7) // 8, "little")
+
+
+def alive(component, minute, number):
+    return fields(1 << 4, ("B", component), ("H", minute), ("H", number))
+
+
+NAMES = ["cleaned", "nut_free", "filled", "chilled"]
+MIXER, CHILLER = 0, 1
+MINUTES = 480
+
+SUBFORMULAS = [
+    subformula(TRUE),
+    subformula(PROPOSITION, NAMES.index("cleaned")),
+    subformula(PROPOSITION, NAMES.index("nut_free")),
+    subformula(PROPOSITION, NAMES.index("filled")),
+    subformula(PROPOSITION, NAMES.index("chilled")),
+    subformula(SINCE, 0, 1, upper=240),
+    subformula(NOT, 2),
+    subformula(OR, 6, 5, rule=True),
+    subformula(UNTIL, 0, 4, upper=90),
+    subformula(NOT, 3),
+    subformula(OR, 9, 8, rule=True),
+]
+
+
+def saw(component, minute, number, what):
+    """An observation that tells all four propositions: one is true."""
+    return observation(component, minute, number, **{name: name == what for name in NAMES})
+
+
+MESSAGES = [
+    saw(MIXER, 200, 2, "nut_free"),
+    saw(MIXER, 10, 1, "cleaned"),
+    saw(CHILLER, 60, 1, "filled"),
+    saw(CHILLER, 130, 2, "chilled"),
+    saw(CHILLER, 300, 3, "filled"),
+    saw(MIXER, 320, 3, "nut_free"),
+    saw(CHILLER, 420, 4, "chilled"),
+    alive(CHILLER, 480, 4),
+    alive(MIXER, 480, 3),
+    observation(MIXER, 400, 3, nut_free=True),
+]
+
+
+def policy():
+    heading = struct.pack("<BBHB", len(NAMES), 2, MINUTES, len(SUBFORMULAS))
+    return heading + b"".join(SUBFORMULAS)
+
+
+def program_input():
+    messages = b"".join(bytes([len(message)]) + message for message in MESSAGES)
+    return struct.pack("<H", len(policy())) + policy() + messages
+
+
+if __name__ == "__main__":
+    sys.stdout.buffer.write(program_input())
