@@ -43,7 +43,11 @@ pair-rule f table t i j h l =
     j
     l)
 
--- the test of the table of or
+-- the table of or, as code has it
+abbrev pub or-codes : List (List ℕ)
+or-codes = (0 ∷ 1 ∷ 0 ∷ []) ∷ (1 ∷ 1 ∷ 1 ∷ []) ∷ (0 ∷ 1 ∷ 2 ∷ []) ∷ []
+
+-- its test
 abbrev pub or-right : List (List ℕ) → Bool
 or-right = pair-right (λ i j. codeOf (or3 (valueOf i) (valueOf j)))
 

@@ -18,7 +18,7 @@ ghost use Rattle.policy.specs.Proper.{Proper};
 ghost use Rattle.valuation.specs.Sheets.{valuation-of, verdicts-of, standing};
 ghost use Rattle.valuation.specs.Rows.{Shows, Row, run, Rows, Points, Workable};
 ghost use Rattle.valuation.specs.Verdicts.{verdict-code, one-stands, VerdictRow};
-ghost use Rattle.valuation.specs.Indexes.{begun, broken, Ranks, moved, far, Last, First, Lasts, Firsts};
+ghost use Rattle.valuation.specs.Indexes.{ranked, begun, broken, Ranks, moved, far, Lasts, Firsts};
 
 // The nearest minute at which a truth is surely so, and at which it may be so.
 pub struct Nearest {
@@ -60,26 +60,16 @@ fn code(sure: bool, may: bool) -> u8
 
 // ---- where a since or until may begin and break off, for all minutes at once before they are passed one by one
 
-// Writes the rank of `e and right` at each minute: where it begins.
-fn rank_begins(points: &[u8], right: &[u8], ranks: &mut [u8; 1024])
-    requires { ⌜ (length (now points) ≤ 1024) × (length (now right) ≡ length (now points)) × (length (now ranks) ≡ 1024) ⌝ }
-    ensures { λ _. ⌜ (length (now (ranks .exit)) ≡ 1024) × ((e β : ℕ → Truth) → Shows (now (points .entry)) e → Shows (now (right .entry)) β → Ranks (length (now (points .entry))) (begun e β) (now (ranks .exit))) ⌝ }
+// Writes the rank of `e and operand` at each minute, or where it is negated of `e and not operand`: where it begins, and where it breaks off.
+fn rank_row(points: &[u8], operand: &[u8], negated: bool, ranks: &mut [u8; 1024])
+    requires { ⌜ (length (now points) ≤ 1024) × (length (now operand) ≡ length (now points)) × (length (now ranks) ≡ 1024) ⌝ }
+    ensures { λ _. ⌜ (length (now (ranks .exit)) ≡ 1024)
+        × ((e f : ℕ → Truth) → Shows (now (points .entry)) e → Shows (now (operand .entry)) f
+        → Ranks (length (now (points .entry))) (ranked negated e f) (now (ranks .exit))) ⌝ }
 {
     let mut t: usize = 0;
     while t < points.len() {
-        ranks[t] = kleene::both(points[t], right[t]);
-        t += 1;
-    }
-}
-
-// Writes the rank of `e and not left` at each minute: where it breaks off.
-fn rank_breaks(points: &[u8], left: &[u8], ranks: &mut [u8; 1024])
-    requires { ⌜ (length (now points) ≤ 1024) × (length (now left) ≡ length (now points)) × (length (now ranks) ≡ 1024) ⌝ }
-    ensures { λ _. ⌜ (length (now (ranks .exit)) ≡ 1024) × ((e α : ℕ → Truth) → Shows (now (points .entry)) e → Shows (now (left .entry)) α → Ranks (length (now (points .entry))) (broken e α) (now (ranks .exit))) ⌝ }
-{
-    let mut t: usize = 0;
-    while t < points.len() {
-        ranks[t] = kleene::apart(points[t], left[t]);
+        ranks[t] = kleene::rank_of_and(points[t], operand[t], negated);
         t += 1;
     }
 }
@@ -106,25 +96,15 @@ fn next_start(start: usize, t: usize, upper: usize) -> usize
     if t < upper { start } else { start + 1 }
 }
 
-// Does the since reach a threshold: is the last begin that does in the interval, which starts here, with no break after it?
-fn since_reaches(start: usize, begin: usize, stop: usize) -> bool
-    ensures { λ r. ⌜ ((w : World Truth) (α β : ℕ → Truth) (lower upper t k : ℕ) → start ≡ t - upper → 0 < k → k ≤ 2 → Last k (begun (point three w) β) (t + 1 - lower) begin → Last (3 - k) (broken (point three w) α) (t + 1) stop → r ≡ leb k (rankOf (since three w α β lower upper t))) ⌝ }
-{
-    if begin <= start {
-        return false;
-    }
-    if begin < stop {
-        return false;
-    }
-    true
-}
-
-// The value at a minute that is passed, whose interval starts here.
+// The value at a minute that is passed, whose interval starts here: it reaches a threshold where the last begin that does is in the interval,
+// with no break after it.
 fn since_value(start: usize, begins: Nearest, breaks: Nearest) -> u8
-    ensures { λ r. ⌜ ((w : World Truth) (α β : ℕ → Truth) (lower upper t : ℕ) → start ≡ t - upper → Lasts (begun (point three w) β) (t + 1 - lower) begins → Lasts (broken (point three w) α) (t + 1) breaks → r ≡ codeOf (since three w α β lower upper t)) ⌝ }
+    ensures { λ r. ⌜ ((w : World Truth) (α β : ℕ → Truth) (lower upper t : ℕ) → start ≡ t - upper
+        → Lasts (begun (point three w) β) (t + 1 - lower) begins → Lasts (broken (point three w) α) (t + 1) breaks
+        → r ≡ codeOf (since three w α β lower upper t)) ⌝ }
 {
-    let sure = since_reaches(start, begins.sure, breaks.may);
-    let may = since_reaches(start, begins.may, breaks.sure);
+    let sure = (start < begins.sure) & (breaks.may <= begins.sure);
+    let may = (start < begins.may) & (breaks.sure <= begins.may);
     code(sure, may)
 }
 
@@ -142,8 +122,8 @@ pub fn since_row(
     requires { ⌜ (length (now points) ≤ 1024) × (length (now left) ≡ length (now points)) × (length (now right) ≡ length (now points)) × (length (now ranks) ≡ 1024) × (length (now row) ≡ 1024) ⌝ }
     ensures { λ _. ⌜ (length (now (ranks .exit)) ≡ 1024) × (length (now (row .exit)) ≡ 1024) × ((w : World Truth) (α β : ℕ → Truth) → Shows (now (points .entry)) (point three w) → Shows (now (left .entry)) α → Shows (now (right .entry)) β → Row (length (now (points .entry))) (since three w α β lower upper) (now (row .exit))) ⌝ }
 {
-    rank_begins(points, right, ranks);
-    rank_breaks(points, left, row);
+    rank_row(points, right, false, ranks);
+    rank_row(points, left, true, row);
     let mut begins = Nearest { sure: 0, may: 0 };
     let mut breaks = Nearest { sure: 0, may: 0 };
     let mut start: usize = 0;
@@ -170,25 +150,15 @@ fn until_begin(ranks: &[u8; 1024], minutes: usize, j: usize) -> u8
     1
 }
 
-// Does the until reach a threshold: is the first begin that does in the interval, which ends here, with no break before it?
-fn until_reaches(end: usize, begin: usize, stop: usize) -> bool
-    ensures { λ r. ⌜ ((w : World Truth) (α β : ℕ → Truth) (lower upper t k : ℕ) → end ≡ t + upper → end < far → 0 < k → k ≤ 2 → First k (begun (point three w) β) (t + lower) begin → First (3 - k) (broken (point three w) α) t stop → r ≡ leb k (rankOf (until three w α β lower upper t))) ⌝ }
-{
-    if end < begin {
-        return false;
-    }
-    if stop < begin {
-        return false;
-    }
-    true
-}
-
-// The value at a minute that is passed, whose interval ends here.
+// The value at a minute that is passed, whose interval ends here: it reaches a threshold where the first begin that does is in the interval,
+// with no break before it.
 fn until_value(end: usize, begins: Nearest, breaks: Nearest) -> u8
-    ensures { λ r. ⌜ ((w : World Truth) (α β : ℕ → Truth) (lower upper t : ℕ) → end ≡ t + upper → end < far → Firsts (begun (point three w) β) (t + lower) begins → Firsts (broken (point three w) α) t breaks → r ≡ codeOf (until three w α β lower upper t)) ⌝ }
+    ensures { λ r. ⌜ ((w : World Truth) (α β : ℕ → Truth) (lower upper t : ℕ) → end ≡ t + upper → end < far
+        → Firsts (begun (point three w) β) (t + lower) begins → Firsts (broken (point three w) α) t breaks
+        → r ≡ codeOf (until three w α β lower upper t)) ⌝ }
 {
-    let sure = until_reaches(end, begins.sure, breaks.may);
-    let may = until_reaches(end, begins.may, breaks.sure);
+    let sure = (begins.sure <= end) & (begins.sure <= breaks.may);
+    let may = (begins.may <= end) & (begins.may <= breaks.sure);
     code(sure, may)
 }
 
@@ -209,8 +179,8 @@ pub fn until_row(
     requires { ⌜ (length (now points) ≤ 1024) × (length (now left) ≡ length (now points)) × (length (now right) ≡ length (now points)) × (lower ≤ 1023) × (upper ≤ 1023) × (length (now ranks) ≡ 1024) × (length (now row) ≡ 1024) ⌝ }
     ensures { λ _. ⌜ (length (now (ranks .exit)) ≡ 1024) × (length (now (row .exit)) ≡ 1024) × ((w : World Truth) (α β : ℕ → Truth) → Shows (now (points .entry)) (point three w) → Shows (now (left .entry)) α → Shows (now (right .entry)) β → Row (length (now (points .entry))) (until three w α β lower upper) (now (row .exit))) ⌝ }
 {
-    rank_begins(points, right, ranks);
-    rank_breaks(points, left, row);
+    rank_row(points, right, false, ranks);
+    rank_row(points, left, true, row);
     let mut t = points.len();
     let mut begins = Nearest {
         sure: FAR,

@@ -5,8 +5,6 @@ use Rattle.kleene.specs.Truth.{codeOf}
 use Rattle.kleene.specs.Rank.{rankOf, reaches-true, reaches-unknown, reaches-none}
 use Rattle.valuation.proofs.code.Statement.{statement}
 use Rattle.valuation.proofs.code.Tie as tie
-use Rattle.valuation.proofs.code.Reads as reads
-use Rattle.valuation.proofs.code.Lts as lts
 
 returns : tie.Need-returns
 returns c x s m = sym (ap codeOf (reaches-true x (leb-true 2 (rankOf x) (sym s ∙ c .if1 .taken))))

@@ -16,9 +16,6 @@ use Rattle.valuation.proofs.Standing.{standing-le}
 use Rattle.valuation.proofs.Concluding.{Concluded, none-yet, no-rule, rule-fits, renamed, one-rule, all-lines}
 use Rattle.valuation.proofs.conclude.Statement.{statement}
 use Rattle.valuation.proofs.conclude.Tie as tie
-use Rattle.valuation.proofs.conclude.Reads as reads
-use Rattle.valuation.proofs.conclude.Lts as lts
-use Rattle.valuation.proofs.verdict_row.Reads as verdict-row-reads
 
 abbrev Inv-loop : tie.InvT-loop
 Inv-loop points valuation verdicts₀ policy minutes count total₀ at₀ i₀ verdicts total at i =

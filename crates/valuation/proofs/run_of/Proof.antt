@@ -5,8 +5,6 @@ use native.Mathlib.Omega.{arith}
 use borrow.Author.Needs.{needs}
 use Rattle.valuation.proofs.run_of.Statement.{statement}
 use Rattle.valuation.proofs.run_of.Tie as tie
-use Rattle.valuation.proofs.run_of.Reads as reads
-use Rattle.valuation.proofs.run_of.Lts as lts
 
 mul-at : tie.Need-mul-at
 mul-at c = search needs
