@@ -4,14 +4,22 @@ ghost use Prim.Native.Nat.{ℕ, _<_};
 ghost use mathlib.Core.List.{[]};
 ghost use lib.ListN.{getD};
 ghost use Rattle.kleene.specs.Truth.{codeOf, valueOf, not3, or3, and3};
-ghost use Rattle.kleene.specs.Rank.{rankOf};
+ghost use Rattle.kleene.specs.Rank.{rank-of};
 ghost use Rattle.kleene.specs.Tests.{known-code, literal};
 
+// The codes.
 pub const UNKNOWN: u8 = 0;
 
 pub const TRUE: u8 = 1;
 
 pub const FALSE: u8 = 2;
+
+// Ranks, a value's places in the order false < unknown < true: it surely is not, it may be, it surely is.
+pub const SURELY_NOT: u8 = 0;
+
+pub const MAY: u8 = 1;
+
+pub const SURE: u8 = 2;
 
 // What the two codes' or is: the row is the first code, the column the second.
 const OR: [[u8; 3]; 3] = [
@@ -20,6 +28,7 @@ const OR: [[u8; 3]; 3] = [
     [UNKNOWN, TRUE, FALSE],
 ];
 
+// What a code's not is.
 const NOT: [u8; 3] = [UNKNOWN, FALSE, TRUE];
 
 // A code as an index of the tables.
@@ -29,19 +38,21 @@ pub fn index(x: u8) -> usize
     if x < 3 { x as usize } else { 0 }
 }
 
+// The code of `not x`.
 pub fn not(x: u8) -> u8
     ensures { λ r. ⌜ r ≡ codeOf (not3 (valueOf x)) ⌝ }
 {
     NOT[index(x)]
 }
 
-// The table itself, for a loop that asks it often.
+// The table of or itself, for a loop that asks it often.
 pub fn or_table() -> [[u8; 3]; 3]
     ensures { λ r. ⌜ ((i j : ℕ) → i < 3 → j < 3 → getD (getD r i []) j 0 ≡ codeOf (or3 (valueOf i) (valueOf j))) ⌝ }
 {
     OR
 }
 
+// The code of `x or y`.
 pub fn or(x: u8, y: u8) -> u8
     ensures { λ r. ⌜ r ≡ codeOf (or3 (valueOf x) (valueOf y)) ⌝ }
 {
@@ -55,18 +66,18 @@ fn known(value: bool) -> u8
     if value { TRUE } else { FALSE }
 }
 
-// The rank of `x and y`, or where y is negated of `x and not y`: its place in the order false < unknown < true. By tests and no table, for
-// inner loops: there a table is built anew each time round.
+// The rank of `x and y`, or where y is negated of `x and not y`. By tests and no table, for inner loops: there a table is built anew each time
+// round.
 pub fn rank_of_and(x: u8, y: u8, negated: bool) -> u8
-    ensures { λ r. ⌜ r ≡ rankOf (and3 (valueOf x) (literal negated (valueOf y))) ⌝ }
+    ensures { λ r. ⌜ r ≡ rank-of (and3 (valueOf x) (literal negated (valueOf y))) ⌝ }
 {
     let no = known(negated);
     let yes = known(!negated);
     if (x == FALSE) | (y == no) {
-        return 0;
+        return SURELY_NOT;
     }
     if (x == TRUE) & (y == yes) {
-        return 2;
+        return SURE;
     }
-    1
+    MAY
 }

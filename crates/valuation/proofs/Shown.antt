@@ -5,7 +5,7 @@ use mathlib.Core.Bool.{Bool, true, false}
 use mathlib.Core.List.{List}
 use lib.ListN.{getD, length, List·getD-eq-default}
 use Rattle.kleene.specs.Truth.{Truth, unknown, valueOf, and3}
-use Rattle.kleene.specs.Rank.{rankOf}
+use Rattle.kleene.specs.Rank.{rank-of}
 use Rattle.kleene.specs.Tests.{literal}
 use Rattle.valuation.specs.Rows.{Shows}
 use Rattle.valuation.specs.Indexes.{ranked}
@@ -14,14 +14,14 @@ past : (l : List ℕ) (f : ℕ → Truth) → Shows l f → (i : ℕ) → length
 past l f S i h = sym (S i) ∙ ap valueOf (List·getD-eq-default l 0 h)
 
 module _ (negated : Bool) (p l : List ℕ) (e f : ℕ → Truth) (P : Shows p e) (L : Shows l f) where
-  pub ranked-at : (j : ℕ) → rankOf (and3 (valueOf (getD p j 0)) (literal negated (valueOf (getD l j 0)))) ≡ ranked negated e f j
+  pub ranked-at : (j : ℕ) → rank-of (and3 (valueOf (getD p j 0)) (literal negated (valueOf (getD l j 0)))) ≡ ranked negated e f j
   unfolding ranked
-  ranked-at j = ap₂ (λ (x y : Truth). rankOf (and3 x (literal negated y))) (P j) (L j)
+  ranked-at j = ap₂ (λ (x y : Truth). rank-of (and3 x (literal negated y))) (P j) (L j)
 
   pub ranked-past : (j : ℕ) → length p ≤ j → length l ≤ j → ranked negated e f j ≡ 1
-  unfolding ranked rankOf
-  ranked-past j h k = ap₂ (λ (x y : Truth). rankOf (and3 x (literal negated y))) (past p e P j h) (past l f L j k) ∙ go negated
+  unfolding ranked rank-of
+  ranked-past j h k = ap₂ (λ (x y : Truth). rank-of (and3 x (literal negated y))) (past p e P j h) (past l f L j k) ∙ go negated
     where
-      go : (b : Bool) → rankOf (and3 unknown (literal b unknown)) ≡ 1
+      go : (b : Bool) → rank-of (and3 unknown (literal b unknown)) ≡ 1
       go true = refl
       go false = refl

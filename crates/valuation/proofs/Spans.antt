@@ -8,7 +8,7 @@ use native.Mathlib.Omega.{arith}
 use lib.Dec.{ltb, leb}
 use borrow.Author.Tests.{le-leb, lt-leb}
 use Rattle.kleene.specs.Truth.{Truth, not3}
-use Rattle.kleene.specs.Rank.{rankOf, rank-le, rank-or, rank-and, rank-not}
+use Rattle.kleene.specs.Rank.{rank-of, rank-le, rank-or, rank-and, rank-not}
 use Rattle.rows.specs.Laws.{lt-or-le}
 use Rattle.decide.specs.Decide.{Decides}
 use Rattle.decide.specs.Laws.{fails, same, less, most, both}
@@ -19,18 +19,18 @@ use Rattle.valuation.proofs.Folds.{any-some, any-none, all-each, all-at
 
 -- x reaches k just where some begin from lo on and before n does, and no break after it and before m reaches 3 - k
 record Reaches (k : ℕ) (f g : ℕ → ℕ) (lo n m : ℕ) (x : Truth) : Type 0 where
-  some : (j : ℕ) → lo ≤ j → j < n → k ≤ f j → ((s : ℕ) → j < s → s < m → g s < 3 - k) → k ≤ rankOf x
-  only : ((j : ℕ) → lo ≤ j → j < n → k ≤ f j → ((s : ℕ) → j < s → s < m → g s < 3 - k) → ⊥) → rankOf x < k
+  some : (j : ℕ) → lo ≤ j → j < n → k ≤ f j → ((s : ℕ) → j < s → s < m → g s < 3 - k) → k ≤ rank-of x
+  only : ((j : ℕ) → lo ≤ j → j < n → k ≤ f j → ((s : ℕ) → j < s → s < m → g s < 3 - k) → ⊥) → rank-of x < k
 
 -- the test of the two indexes is that x reaches k
 module _ (k lo n m begin stop : ℕ) (f g : ℕ → ℕ) (x : Truth) (R : Reaches k f g lo n m x) (A : Last k f n begin) (B : Last (3 - k) g m stop) where
-  reached : lo < begin → stop ≤ begin → k ≤ rankOf x
+  reached : lo < begin → stop ≤ begin → k ≤ rank-of x
   reached p q =
       let i = begin - 1 in
       let in-range : begin ≤ n = A .within in
       R .some i (omega arith) (omega arith) (A .there i (omega arith)) (λ s l r. B .after s (omega arith) r)
 
-  missed : (lo < begin → stop ≤ begin → ⊥) → rankOf x < k
+  missed : (lo < begin → stop ≤ begin → ⊥) → rank-of x < k
   missed h =
       R .only
       (λ j p q a b.
@@ -47,9 +47,9 @@ module _ (k lo n m begin stop : ℕ) (f g : ℕ → ℕ) (x : Truth) (R : Reache
       (λ (l : begin ≤ j). let z : ⊥ = omega (arith, A .after j l q) in z)
       (lt-or-le j begin))
 
-  decided : (b : Bool) → Decides b ((lo < begin) × (stop ≤ begin)) → b ≡ leb k (rankOf x)
-  decided true d = let h = d .sound refl in sym (le-leb k (rankOf x) (reached (h .0) (h .1)))
-  decided false d = sym (lt-leb k (rankOf x) (missed (λ p q. fails d refl (p, q))))
+  decided : (b : Bool) → Decides b ((lo < begin) × (stop ≤ begin)) → b ≡ leb k (rank-of x)
+  decided true d = let h = d .sound refl in sym (le-leb k (rank-of x) (reached (h .0) (h .1)))
+  decided false d = sym (lt-leb k (rank-of x) (missed (λ p q. fails d refl (p, q))))
 
 -- ---- minutes with time turned round
 
@@ -81,7 +81,7 @@ module _ (w : World Truth) (α β : ℕ → Truth) (k : ℕ) (pos : 0 < k) (smal
   e = point three w
 
   -- to go on, (not e(s) or α(s)), is not to break off
-  goes-on : (s : ℕ) → rankOf (implies three (e s) (α s)) ≡ 2 - broken e α s
+  goes-on : (s : ℕ) → rank-of (implies three (e s) (α s)) ≡ 2 - broken e α s
   unfolding ranked
   goes-on s = omega (arith, rank-or (not3 (e s)) (α s), rank-not (e s), rank-and (e s) (not3 (α s)), rank-not (α s), rank-le (e s), rank-le (α s))
 
@@ -93,23 +93,23 @@ module _ (w : World Truth) (α β : ℕ → Truth) (k : ℕ) (pos : 0 < k) (smal
     abbrev Unbroken : ℕ → Type 0
     Unbroken j = (s : ℕ) → from j ≤ s → s < from j + count j → broken e α s < 3 - k
 
-    some-span : (j : ℕ) → lo ≤ j → j < lo + n → k ≤ begun e β j → Unbroken j → k ≤ rankOf (any three lo n spanned)
+    some-span : (j : ℕ) → lo ≤ j → j < lo + n → k ≤ begun e β j → Unbroken j → k ≤ rank-of (any three lo n spanned)
     unfolding ranked
     some-span j p q a b =
         let on = all-each k (λ s. implies three (e s) (α s)) (from j) (count j) small (λ s l r. omega (arith, goes-on s, b s l r)) in
         any-some k spanned lo n j p q (omega (arith, rank-and (meets three w β j) (keeps three w α (from j) (count j))))
 
-    no-span : ((j : ℕ) → lo ≤ j → j < lo + n → k ≤ begun e β j → Unbroken j → ⊥) → rankOf (any three lo n spanned) < k
+    no-span : ((j : ℕ) → lo ≤ j → j < lo + n → k ≤ begun e β j → Unbroken j → ⊥) → rank-of (any three lo n spanned) < k
     unfolding ranked
     no-span h =
         any-none k spanned lo n pos
         (λ j p q.
         let both = rank-and (meets three w β j) (keeps three w α (from j) (count j)) in
         ⊎-elim
-        (λ (l : rankOf (spanned j) < k). l)
-        (λ (l : k ≤ rankOf (spanned j)).
+        (λ (l : rank-of (spanned j) < k). l)
+        (λ (l : k ≤ rank-of (spanned j)).
         absurd (h j p q (omega arith) (λ s a b. omega (arith, goes-on s, all-at k (λ i. implies three (e i) (α i)) (from j) (count j) s a b (omega arith)))))
-        (lt-or-le (rankOf (spanned j)) k))
+        (lt-or-le (rank-of (spanned j)) k))
 
   module _ (lower upper t : ℕ) where
     since-reaches : Reaches k (begun e β) (broken e α) (t - upper) (t + 1 - lower) (t + 1) (since three w α β lower upper t)
@@ -145,13 +145,13 @@ module _ (w : World Truth) (α β : ℕ → Truth) (k : ℕ) (pos : 0 < k) (smal
   -- the tests of since and until
   module _ (lower upper t begin stop : ℕ) where
     pub since-test : (start : ℕ) → start ≡ t - upper → Last k (begun e β) (t + 1 - lower) begin → Last (3 - k) (broken e α) (t + 1) stop
-        → (ltb start begin && leb stop begin) ≡ leb k (rankOf (since three w α β lower upper t))
+        → (ltb start begin && leb stop begin) ≡ leb k (rank-of (since three w α β lower upper t))
     since-test start s A B =
         decided k start (t + 1 - lower) (t + 1) begin stop (begun e β) (broken e α) (since three w α β lower upper t)
         (rw s (since-reaches lower upper t)) A B (ltb start begin && leb stop begin) (both (less start begin) (most stop begin))
 
     pub until-test : (end : ℕ) → end ≡ t + upper → end < far → Last k (turned (begun e β)) (far - (t + lower)) (far - begin) → Last (3 - k) (turned (broken e α)) (far - t) (far - stop)
-        → (leb begin end && leb begin stop) ≡ leb k (rankOf (until three w α β lower upper t))
+        → (leb begin end && leb begin stop) ≡ leb k (rank-of (until three w α β lower upper t))
     until-test end s near A B =
         decided k (far - 1 - end) (far - (t + lower)) (far - t) (far - begin) (far - stop) (turned (begun e β)) (turned (broken e α)) (until three w α β lower upper t)
         (rw s (until-reaches lower upper t (rw s at near))) A B (leb begin end && leb begin stop) (same (turned-order begin end stop near .0) (turned-order begin end stop near .1) (both (most begin end) (most begin stop)))

@@ -6,13 +6,13 @@ use mathlib.Core.List.{List}
 use lib.Dec.{leb}
 use lib.ListN.{getD}
 use Rattle.kleene.specs.Truth.{Truth, and3}
-use Rattle.kleene.specs.Rank.{rankOf}
+use Rattle.kleene.specs.Rank.{rank-of}
 use Rattle.kleene.specs.Tests.{literal}
 use Rattle.valuation.specs.declared.Nearest.{Nearest}
 
 -- e(j) and f(j), or e(j) and not f(j): as a rank
 unfoldable pub ranked : Bool → (ℕ → Truth) → (ℕ → Truth) → ℕ → ℕ
-ranked negated e f j = rankOf (and3 (e j) (literal negated (f j)))
+ranked negated e f j = rank-of (and3 (e j) (literal negated (f j)))
 
 -- e(j) and β(j), where a since or until begins
 abbrev pub begun : (ℕ → Truth) → (ℕ → Truth) → ℕ → ℕ

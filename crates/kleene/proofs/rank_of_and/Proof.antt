@@ -5,7 +5,7 @@ use mathlib.Core.Bool.{Bool, false, not, _&&_, _||_}
 use lib.Dec.{eqb}
 use borrow.Author.Needs.{needs}
 use Rattle.kleene.specs.Truth.{Truth, valueOf, not3, or3}
-use Rattle.kleene.specs.Rank.{rankOf}
+use Rattle.kleene.specs.Rank.{rank-of}
 use Rattle.kleene.specs.Tests.{known-code, literal, says, not-says, or-says, says-true, says-false, says-neither}
 use Rattle.kleene.proofs.rank_of_and.Statement.{statement}
 use Rattle.kleene.proofs.rank_of_and.Tie as tie
@@ -14,7 +14,7 @@ abbrev either-not : Bool → ℕ → ℕ → Truth
 either-not negated x y = or3 (not3 (valueOf x)) (not3 (literal negated (valueOf y)))
 
 abbrev rank : Truth → ℕ
-rank v = rankOf (not3 v)
+rank v = rank-of (not3 v)
 
 rule : (negated : Bool) (x y n z : ℕ) → n ≡ known-code negated → z ≡ known-code (not negated)
     → either-not negated x y ≡ says (eqb x 2 || eqb y n) (eqb x 1 && eqb y z)
@@ -27,21 +27,21 @@ known-requires-2 : tie.Need-known-requires-2
 known-requires-2 c κs = search needs
 
 returns : tie.Need-returns
-unfolding rankOf
+unfolding rank-of
 returns c =
     let k = c .before in
     let x = k .before .before .args in
     says-true rank (either-not (x .negated) (x .x) (x .y)) _ _ (rule (x .negated) (x .x) (x .y) _ _ (k .before .known .ensures) (k .known2 .ensures)) (c .if1 .taken)
 
 returns-2 : tie.Need-returns-2
-unfolding rankOf
+unfolding rank-of
 returns-2 c =
     let k = c .before .before in
     let x = k .before .before .args in
     says-false rank (either-not (x .negated) (x .x) (x .y)) _ _ (rule (x .negated) (x .x) (x .y) _ _ (k .before .known .ensures) (k .known2 .ensures)) (c .before .if1 .left) (c .if2 .taken)
 
 returns-3 : tie.Need-returns-3
-unfolding rankOf
+unfolding rank-of
 returns-3 c =
     let k = c .before .before in
     let x = k .before .before .args in

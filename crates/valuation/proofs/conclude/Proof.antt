@@ -1,16 +1,14 @@
 -- `valuation::conclude` meets its contract. The invariant of its loop: the verdicts of the rules among the first i lines are written and counted.
 -- Assumes nothing.
-use mathlib.Core.Path.{_≡_, refl, sym, ap, subst, _∙_}
+use mathlib.Core.Path.{_≡_, sym, ap, _∙_}
 use mathlib.Core.Logic.{⊎-elim}
-use mathlib.Core.List.{List, _++_}
-use Prim.Native.Nat.{ℕ, _+_, _-_, _*_, _≤_, _<_}
+use mathlib.Core.List.{_++_}
+use Prim.Native.Nat.{ℕ, _+_, _-_, _*_, _≤_}
 use native.Mathlib.Omega.{arith}
 use borrow.Author.Needs.{needs}
 use denote.Ref.{now}
-use lib.ListN.{length, getD, take, drop, length-take, length-drop}
-use lib.Seq.{length-take-le}
+use lib.ListN.{length, take, drop, length-take, length-drop}
 use Rattle.rows.specs.Grid.{next-row}
-use Rattle.knowledge.specs.Knowledge.{Knowledge}
 use Rattle.valuation.proofs.Work.{given-back}
 use Rattle.valuation.proofs.Standing.{standing-le}
 use Rattle.valuation.proofs.Concluding.{Concluded, none-yet, no-rule, rule-fits, renamed, one-rule, all-lines}

@@ -1,6 +1,6 @@
 -- `valuation::run_of` meets its contract: the part from i * minutes on is the row. Assumes nothing.
 use mathlib.Core.Path.{_≡_, refl}
-use Prim.Native.Nat.{ℕ, _+_, _-_, _*_}
+use Prim.Native.Nat.{_+_, _-_, _*_}
 use native.Mathlib.Omega.{arith}
 use borrow.Author.Needs.{needs}
 use Rattle.valuation.proofs.run_of.Statement.{statement}

@@ -3,7 +3,6 @@
 use mathlib.Core.Path.{refl, subst}
 use Prim.Native.Nat.{ℕ, _+_, _-_}
 use native.Mathlib.Omega.{arith}
-use denote.Ref.{now}
 use Rattle.valuation.specs.Indexes.{Lasts}
 use Rattle.valuation.proofs.Steps.{lasts-step}
 use borrow.Author.Needs.{needs}

@@ -1,6 +1,6 @@
 -- `valuation::true_row` meets its contract. The invariant of its loop: the cells before t are the code of true. Assumes nothing.
 use mathlib.Core.Path.{refl, _∙_}
-use Prim.Native.Nat.{ℕ, _-_, _≤_}
+use Prim.Native.Nat.{_-_, _≤_}
 use native.Mathlib.Omega.{arith}
 use denote.Ref.{now}
 use Rattle.rows.specs.Over.{Over}
