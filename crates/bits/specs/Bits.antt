@@ -1,5 +1,5 @@
 -- The binary digits of a number. Assumes nothing.
-use Prim.Native.Nat.{ℕ, zero, suc, _+_, _-_, _*_, _/_, _%_, _^_, _≤_, _<_, max}
+use Prim.Native.Nat.{ℕ, zero, suc, _+_, _*_, _/_, _%_, _^_, _≤_, _<_, max}
 use native.Mathlib.Nat.{pow-succ', div-one, div-div-eq-div-mul, div-eq-of-lt, pow-le-pow-right, zero-div}
 use native.Mathlib.Omega.{arith}
 use native.Mathlib.Decide.{decLt}
@@ -21,23 +21,43 @@ pub bit-suc : (n k : ℕ) → bit n (suc k) ≡ bit (n / 2) k
 unfolding bit
 bit-suc n k = ap (λ (x : ℕ). eqb (x % 2) 1) (ap (λ (x : ℕ). n / x) (pow-succ' 2 k) ∙ sym (div-div-eq-div-mul n 2 (2 ^ k)))
 
-greater : (x y : ℕ) → x < 2 → y < 2 → eqb (max x y) 1 ≡ (eqb x 1 || eqb y 1)
-greater zero zero h k = refl
-greater zero (suc zero) h k = refl
-greater (suc zero) zero h k = refl
-greater (suc zero) (suc zero) h k = refl
-greater zero (suc (suc y)) h k = absurd (omega arith)
-greater (suc zero) (suc (suc y)) h k = absurd (omega arith)
-greater (suc (suc x)) y h k = absurd (omega arith)
+-- what holds of each two digits
+pub by-digits : (P : ℕ → ℕ → Type 0) → P 0 0 → P 0 1 → P 1 0 → P 1 1 → (x y : ℕ) → x < 2 → y < 2 → P x y
+by-digits P a b c d zero zero h k = a
+by-digits P a b c d zero (suc zero) h k = b
+by-digits P a b c d (suc zero) zero h k = c
+by-digits P a b c d (suc zero) (suc zero) h k = d
+by-digits P a b c d zero (suc (suc y)) h k = absurd (omega arith)
+by-digits P a b c d (suc zero) (suc (suc y)) h k = absurd (omega arith)
+by-digits P a b c d (suc (suc x)) y h k = absurd (omega arith)
+
+-- an operation on whole words that is d on each two digits, and so f on each two bits
+module _ (op d : ℕ → ℕ → ℕ) (f : Bool → Bool → Bool) (step : (a b : ℕ) → op a b ≡ op (a / 2) (b / 2) * 2 + d (a % 2) (b % 2))
+    (digits : (x y : ℕ) → x < 2 → y < 2 → (d x y < 2) × (eqb (d x y) 1 ≡ f (eqb x 1) (eqb y 1))) where
+  pub bit-by-bit : (k a b : ℕ) → bit (op a b) k ≡ f (bit a k) (bit b k)
+  bit-by-bit zero a b =
+      let s = digits (a % 2) (b % 2) (omega arith) (omega arith) in
+      let e : op a b % 2 ≡ d (a % 2) (b % 2) = omega (arith, step a b, s .0) in
+      rw (bit-zero (op a b), bit-zero a, bit-zero b) (ap (λ (x : ℕ). eqb x 1) e ∙ s .1)
+  bit-by-bit (suc k) a b =
+      let s = digits (a % 2) (b % 2) (omega arith) (omega arith) in
+      let e : op a b / 2 ≡ op (a / 2) (b / 2) = omega (arith, step a b, s .0) in
+      rw (bit-suc (op a b) k, bit-suc a k, bit-suc b k) (ap (λ (x : ℕ). bit x k) e ∙ bit-by-bit k (a / 2) (b / 2))
 
 -- a digit of the bitwise disjunction
 pub bit-or : (k a b : ℕ) → bit (bitOr a b) k ≡ (bit a k || bit b k)
-bit-or zero a b =
-    let e : bitOr a b % 2 ≡ max (a % 2) (b % 2) = omega (arith, or-step a b) in
-    rw (bit-zero (bitOr a b), bit-zero a, bit-zero b) (ap (λ (x : ℕ). eqb x 1) e ∙ greater (a % 2) (b % 2) (omega arith) (omega arith))
-bit-or (suc k) a b =
-    let e : bitOr a b / 2 ≡ bitOr (a / 2) (b / 2) = omega (arith, or-step a b) in
-    rw (bit-suc (bitOr a b) k, bit-suc a k, bit-suc b k) (ap (λ (x : ℕ). bit x k) e ∙ bit-or k (a / 2) (b / 2))
+bit-or =
+    bit-by-bit bitOr max _||_ or-step
+    (by-digits (λ x y. (max x y < 2) × (eqb (max x y) 1 ≡ (eqb x 1 || eqb y 1))) (omega arith, refl) (omega arith, refl) (omega arith, refl) (omega arith, refl))
+
+-- a digit's test by its remainder
+pub bit-clear : (n k : ℕ) → n / 2 ^ k % 2 ≡ 0 → bit n k ≡ false
+unfolding bit
+bit-clear n k e = ne-eqb (n / 2 ^ k % 2) 1 (λ f. omega arith)
+
+pub bit-set : (n k : ℕ) → (n / 2 ^ k % 2 ≡ 0 → ⊥) → bit n k ≡ true
+unfolding bit
+bit-set n k h = eq-eqb (n / 2 ^ k % 2) 1 (omega arith)
 
 same-odd : (x y : ℕ) → eqb (x % 2) 1 ≡ eqb (y % 2) 1 → x % 2 ≡ y % 2
 same-odd x y e = go (eqb (y % 2) 1) refl

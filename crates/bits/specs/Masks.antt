@@ -1,50 +1,24 @@
 -- The tests on facts as operations on whole words, as code has them. Assumes nothing.
-use Prim.Native.Nat.{ℕ, zero, suc, _+_, _-_, _*_, _/_, _%_, _^_, _≤_, _<_, min}
-use native.Mathlib.Nat.{one-le-pow, pow-succ'}
+use Prim.Native.Nat.{ℕ, zero, suc, _/_, _^_, _<_, min}
+use native.Mathlib.Nat.{one-le-pow}
 use native.Mathlib.Omega.{arith}
-use mathlib.Core.Path.{_≡_, refl, sym, ap, ap₂, _∙_}
-use mathlib.Core.Bool.{Bool, true, false, not, _&&_, _||_, xor}
+use mathlib.Core.Path.{_≡_, refl, sym, ap, _∙_}
+use mathlib.Core.Bool.{Bool, true, false, _&&_, xor}
 use mathlib.Core.Logic.{_↔_}
 use lib.Dec.{eqb}
 use lib.Bits.{bitAnd, bitXor, differ, and-step, xor-step}
-use Rattle.bits.specs.Bits.{bit, bit-zero, bit-suc, bit-below, bit-of-zero, bits-same}
-
-lesser : (x y : ℕ) → x < 2 → y < 2 → eqb (min x y) 1 ≡ (eqb x 1 && eqb y 1)
-lesser zero zero h k = refl
-lesser zero (suc zero) h k = refl
-lesser (suc zero) zero h k = refl
-lesser (suc zero) (suc zero) h k = refl
-lesser zero (suc (suc y)) h k = absurd (omega arith)
-lesser (suc zero) (suc (suc y)) h k = absurd (omega arith)
-lesser (suc (suc x)) y h k = absurd (omega arith)
-
-differing : (x y : ℕ) → x < 2 → y < 2 → (differ x y < 2) × (eqb (differ x y) 1 ≡ xor (eqb x 1) (eqb y 1))
-unfolding xor
-differing zero zero h k = (omega arith, refl)
-differing zero (suc zero) h k = (omega arith, refl)
-differing (suc zero) zero h k = (omega arith, refl)
-differing (suc zero) (suc zero) h k = (omega arith, refl)
-differing zero (suc (suc y)) h k = absurd (omega arith)
-differing (suc zero) (suc (suc y)) h k = absurd (omega arith)
-differing (suc (suc x)) y h k = absurd (omega arith)
+use Rattle.bits.specs.Bits.{bit, bit-suc, by-digits, bit-by-bit, bit-below, bit-of-zero, bits-same}
 
 pub bit-and : (k a b : ℕ) → bit (bitAnd a b) k ≡ (bit a k && bit b k)
-bit-and zero a b =
-    let e : bitAnd a b % 2 ≡ min (a % 2) (b % 2) = omega (arith, and-step a b) in
-    rw (bit-zero (bitAnd a b), bit-zero a, bit-zero b) (ap (λ (x : ℕ). eqb x 1) e ∙ lesser (a % 2) (b % 2) (omega arith) (omega arith))
-bit-and (suc k) a b =
-    let e : bitAnd a b / 2 ≡ bitAnd (a / 2) (b / 2) = omega (arith, and-step a b) in
-    rw (bit-suc (bitAnd a b) k, bit-suc a k, bit-suc b k) (ap (λ (x : ℕ). bit x k) e ∙ bit-and k (a / 2) (b / 2))
+bit-and =
+    bit-by-bit bitAnd min _&&_ and-step
+    (by-digits (λ x y. (min x y < 2) × (eqb (min x y) 1 ≡ (eqb x 1 && eqb y 1))) (omega arith, refl) (omega arith, refl) (omega arith, refl) (omega arith, refl))
 
 pub bit-xor : (k a b : ℕ) → bit (bitXor a b) k ≡ xor (bit a k) (bit b k)
-bit-xor zero a b =
-    let d = differing (a % 2) (b % 2) (omega arith) (omega arith) in
-    let e : bitXor a b % 2 ≡ differ (a % 2) (b % 2) = omega (arith, xor-step a b, d .0) in
-    rw (bit-zero (bitXor a b), bit-zero a, bit-zero b) (ap (λ (x : ℕ). eqb x 1) e ∙ d .1)
-bit-xor (suc k) a b =
-    let d = differing (a % 2) (b % 2) (omega arith) (omega arith) in
-    let e : bitXor a b / 2 ≡ bitXor (a / 2) (b / 2) = omega (arith, xor-step a b, d .0) in
-    rw (bit-suc (bitXor a b) k, bit-suc a k, bit-suc b k) (ap (λ (x : ℕ). bit x k) e ∙ bit-xor k (a / 2) (b / 2))
+unfolding xor
+bit-xor =
+    bit-by-bit bitXor differ xor xor-step
+    (by-digits (λ x y. (differ x y < 2) × (eqb (differ x y) 1 ≡ xor (eqb x 1) (eqb y 1))) (omega arith, refl) (omega arith, refl) (omega arith, refl) (omega arith, refl))
 
 -- a word is 0 just where it has no digit
 pub no-bits : (w n : ℕ) → n < 2 ^ w → (n ≡ 0) ↔ ((i : ℕ) → i < w → bit n i ≡ false)

@@ -15,45 +15,13 @@ ghost use Rattle.knowledge.specs.Knowledge.{Sized, Sound};
 ghost use Rattle.knowledge.specs.Laws.{Limits};
 ghost use Rattle.knowledge.specs.Run.{held, sent, Steady-runs};
 
-// The value of a hexadecimal digit.
-fn digit(c: u8) -> u8
-    ensures { λ r. ⌜ r < 16 ⌝ }
-{
-    if c < b'A' {
-        return c % 16;
-    }
-    (c - b'A' + 10) % 16
-}
-
-// Byte k of a line, 0 past its end.
-fn byte_at(line: &[u8], k: usize) -> u8
-    requires { ⌜ k < 20000 ⌝ }
-{
-    if line.len() < 3 * k + 2 {
-        return 0;
-    }
-    digit(line[3 * k]) * 16 + digit(line[3 * k + 1])
-}
-
-fn word_at(line: &[u8], k: usize) -> u16
-    requires { ⌜ k < 19990 ⌝ }
-{
-    byte_at(line, k) as u16 + byte_at(line, k + 1) as u16 * 256
-}
-
-fn wide_at(line: &[u8], k: usize) -> u32
-    requires { ⌜ k < 19980 ⌝ }
-{
-    word_at(line, k) as u32 + word_at(line, k + 2) as u32 * 65536
-}
-
 fn sizes_of(line: &[u8]) -> Sizes
     ensures { λ r. ⌜ Limits r × (r .components ≤ 2) ⌝ }
 {
     Sizes {
-        propositions: byte_at(line, 0) as usize % 33,
-        components: byte_at(line, 1) as usize % 3,
-        minutes: word_at(line, 2) as usize % 1025,
+        propositions: hex_lines::byte_at(line, 0) as usize % 33,
+        components: hex_lines::byte_at(line, 1) as usize % 3,
+        minutes: hex_lines::word_at(line, 2) as usize % 1025,
     }
 }
 
@@ -63,46 +31,6 @@ fn numbers_size(sizes: Sizes) -> usize
     ensures { λ r. ⌜ (r ≡ sizes .components * suc (sizes .minutes)) × (r ≤ 2050) ⌝ }
 {
     sizes.components * (sizes.minutes + 1)
-}
-
-// The first n bytes, words and wide words of a line from a place on.
-fn bytes_of(line: &[u8], from: usize, n: usize) -> [u8; 256]
-    requires { ⌜ (from < 9000) × (n ≤ 256) ⌝ }
-    ensures { λ r. ⌜ length r ≡ 256 ⌝ }
-{
-    let mut out = [0u8; 256];
-    let mut i = 0;
-    while i < n {
-        out[i] = byte_at(line, from + i);
-        i += 1;
-    }
-    out
-}
-
-fn words_of(line: &[u8], from: usize, n: usize) -> [u16; 2050]
-    requires { ⌜ (from < 9000) × (n ≤ 2050) ⌝ }
-    ensures { λ r. ⌜ length r ≡ 2050 ⌝ }
-{
-    let mut out = [0u16; 2050];
-    let mut i = 0;
-    while i < n {
-        out[i] = word_at(line, from + 2 * i);
-        i += 1;
-    }
-    out
-}
-
-fn wide_of(line: &[u8], from: usize, n: usize) -> [u32; 2048]
-    requires { ⌜ (from < 9000) × (n ≤ 2048) ⌝ }
-    ensures { λ r. ⌜ length r ≡ 2048 ⌝ }
-{
-    let mut out = [0u32; 2048];
-    let mut i = 0;
-    while i < n {
-        out[i] = wide_at(line, from + 4 * i);
-        i += 1;
-    }
-    out
 }
 
 fn show_number(n: u64) {
@@ -177,15 +105,40 @@ fn show_case(sizes: Sizes, numbers: &mut [u16], facts: &mut [u32], message: &[u8
     }
 }
 
+// Reads the message, the sequence numbers and the facts of a line, which start at a place, and shows them.
+fn show_parts(
+    line: &[u8],
+    from: usize,
+    sizes: Sizes,
+    message: &mut [u8],
+    numbers: &mut [u16],
+    facts: &mut [u32],
+)
+    requires { ⌜ (from < 16) × (length (now message) ≤ 255) × Limits sizes × (length (now numbers) ≤ 2050) × Sized sizes (held (now numbers) (now facts)) ⌝ }
+{
+    let at = from + message.len();
+    hex_lines::bytes_from(line, from, message);
+    hex_lines::words_from(line, at, numbers);
+    hex_lines::wide_from(line, at + 2 * numbers.len(), facts);
+    show_case(sizes, numbers, facts, message);
+}
+
 fn show_vector(line: &[u8]) {
     let sizes = sizes_of(line);
-    let m = byte_at(line, 4) as usize;
+    let m = hex_lines::byte_at(line, 4) as usize;
     let n = numbers_size(sizes);
     let f = 2 * sizes.minutes;
-    let message = bytes_of(line, 5, m);
-    let mut numbers = words_of(line, 5 + m, n);
-    let mut facts = wide_of(line, 5 + m + 2 * n, f);
-    show_case(sizes, &mut numbers[0..n], &mut facts[0..f], &message[0..m]);
+    let mut message = [0u8; 256];
+    let mut numbers = [0u16; 2050];
+    let mut facts = [0u32; 2048];
+    show_parts(
+        line,
+        5,
+        sizes,
+        &mut message[0..m],
+        &mut numbers[0..n],
+        &mut facts[0..f],
+    );
 }
 
 fn show_line(line: &[u8]) {
@@ -197,22 +150,10 @@ fn show_line(line: &[u8]) {
     io::write_all(1, b"\n");
 }
 
-// Where the line that starts at a place ends.
-fn line_end(text: &[u8], at: usize) -> usize
-    requires { ⌜ at ≤ length (now text) ⌝ }
-    ensures { λ r. ⌜ (at ≤ r) × (r ≤ length (now (text .entry))) ⌝ }
-{
-    let mut end = at;
-    while end < text.len() && text[end] != b'\n' {
-        end += 1;
-    }
-    end
-}
-
 fn show_lines(text: &[u8]) {
     let mut at = 0;
     while at < text.len() {
-        let end = line_end(text, at);
+        let end = hex_lines::line_end(text, at);
         show_line(&text[at..end]);
         at = end + 1;
     }

@@ -7,48 +7,12 @@ use message::Event;
 use policy::Sizes;
 use refusal::Answer;
 use refusal::Refusal;
-ghost use Prim.Native.Nat.{_+_, _≤_, _<_};
-ghost use lib.ListN.{length};
-
-// The value of a hexadecimal digit.
-fn digit(c: u8) -> u8
-    ensures { λ r. ⌜ r < 16 ⌝ }
-{
-    if c < b'A' {
-        return c % 16;
-    }
-    (c - b'A' + 10) % 16
-}
-
-// Byte k of a line, 0 past its end.
-fn byte_at(line: &[u8], k: usize) -> u8
-    requires { ⌜ k < 1000 ⌝ }
-{
-    if line.len() < 3 * k + 2 {
-        return 0;
-    }
-    digit(line[3 * k]) * 16 + digit(line[3 * k + 1])
-}
-
-// The message of a line, to the start of a buffer, and its length.
-fn message_of(line: &[u8], out: &mut [u8]) -> usize
-    requires { ⌜ length (now out) ≤ 32 ⌝ }
-    ensures { λ r. ⌜ r ≤ length (now (out .exit)) ⌝ }
-{
-    let total = (line.len() + 1) / 3;
-    let mut n = 0;
-    while n < out.len() && n + 4 < total {
-        out[n] = byte_at(line, n + 4);
-        n += 1;
-    }
-    n
-}
 
 fn sizes_of(line: &[u8]) -> Sizes {
     Sizes {
-        propositions: byte_at(line, 0) as usize,
-        components: byte_at(line, 1) as usize,
-        minutes: byte_at(line, 2) as usize + byte_at(line, 3) as usize * 256,
+        propositions: hex_lines::byte_at(line, 0) as usize,
+        components: hex_lines::byte_at(line, 1) as usize,
+        minutes: hex_lines::word_at(line, 2) as usize,
     }
 }
 
@@ -103,28 +67,16 @@ fn show_line(line: &[u8]) {
     if 0 < line.len() && line[0] != b'#' {
         io::write_all(1, b": ");
         let mut message = [0u8; 32];
-        let n = message_of(line, &mut message);
+        let n = hex_lines::bytes_from(line, 4, &mut message);
         show_answer(message::decode(&message[0..n], sizes_of(line)));
     }
     io::write_all(1, b"\n");
 }
 
-// Where the line that starts at a place ends.
-fn line_end(text: &[u8], at: usize) -> usize
-    requires { ⌜ at ≤ length (now text) ⌝ }
-    ensures { λ r. ⌜ (at ≤ r) × (r ≤ length (now (text .entry))) ⌝ }
-{
-    let mut end = at;
-    while end < text.len() && text[end] != b'\n' {
-        end += 1;
-    }
-    end
-}
-
 fn show_lines(text: &[u8]) {
     let mut at = 0;
     while at < text.len() {
-        let end = line_end(text, at);
+        let end = hex_lines::line_end(text, at);
         show_line(&text[at..end]);
         at = end + 1;
     }

@@ -1,10 +1,10 @@
 -- The folds over Bool, against "some" and "every".
 use Prim.Native.Nat.{ℕ, zero, suc, _+_, _≤_, _<_}
-use native.Mathlib.Nat.{add-suc, add-zero}
 use native.Mathlib.Omega.{arith}
 use native.Mathlib.Decide.{ℕ-discrete}
 use mathlib.Core.Path.{_≡_, refl, sym, ap, _∙_}
-use mathlib.Core.Bool.{Bool, true, false, not, _||_, _&&_, true≢false, or-true}
+use mathlib.Core.Bool.{Bool, true, false, _||_, _&&_, true≢false, or-true}
+use Rattle.logic.specs.Bools.{de-morgan}
 use Rattle.mtl.specs.Algebra.{any, all, meet, two}
 
 pub both : (a b : Bool) → (a && b) ≡ true → (a ≡ true) × (b ≡ true)
@@ -15,9 +15,7 @@ pub pair : {a b : Bool} → a ≡ true → b ≡ true → (a && b) ≡ true
 pair e f = rw (e, f)
 
 pub meet-true : (a b : Bool) → meet two a b ≡ true → (a ≡ true) × (b ≡ true)
-meet-true true true e = (refl, refl)
-meet-true true false e = absurd (true≢false (sym e))
-meet-true false b e = absurd (true≢false (sym e))
+meet-true a b e = both a b (sym (de-morgan a b) ∙ e)
 
 pub any-some : (lo n : ℕ) (f : ℕ → Bool) (i : ℕ) → lo ≤ i → i < lo + n → f i ≡ true → any two lo n f ≡ true
 any-some lo zero f i h k e = absurd (omega arith)

@@ -1,13 +1,14 @@
 -- The two-valued reading a second time, in the words of 001, section 2: a proposition, with no fold and no Boolean operation. And the
 -- theorem that the two agree.
-use Prim.Native.Nat.{ℕ, zero, suc, _+_, _-_, _≤_, _<_}
+use Prim.Native.Nat.{ℕ, zero, suc, _+_, _≤_, _<_}
 use native.Mathlib.Omega.{arith}
-use mathlib.Core.Path.{_≡_, refl, sym, ap, _∙_}
-use mathlib.Core.Bool.{Bool, true, false, not, _||_, true≢false, or-true}
+use mathlib.Core.Path.{_≡_, refl, sym}
+use mathlib.Core.Bool.{Bool, true, false, not, _||_, true≢false}
 use mathlib.Core.Logic.{_⊎_, inl, inr, ⊎-elim, _↔_}
+use Rattle.logic.specs.Bools.{imply, implied}
 use Rattle.mtl.specs.declared.Formula.{Formula}
 use Rattle.mtl.specs.declared.Formula.the-variants.{True, Proposition, Not, Or, Since, Until}
-use Rattle.mtl.specs.Algebra.{two, meet, implies, any, all}
+use Rattle.mtl.specs.Algebra.{two, meet, any}
 use Rattle.mtl.specs.Reading.{World, since-start, since-count, after-start, after-count, until-start, until-count, before-start, before-count, meets, keeps, since, until, meaning, deep, reading}
 use Rattle.mtl.specs.Folds.{meet-true, any-some, any-true, all-true, all-each}
 
@@ -65,14 +66,6 @@ or-agrees false b h k = (λ e. inr (k .0 e), λ p. ⊎-elim (λ q. absurd (true�
 meets-both : {a b : Bool} → a ≡ true → b ≡ true → meet two a b ≡ true
 meets-both e f = rw (e, f) refl
 
-implies-there : (a b : Bool) → implies two a b ≡ true → a ≡ true → b ≡ true
-implies-there true b e h = e
-implies-there false b e h = absurd (true≢false (sym h))
-
-implies-back : (a b : Bool) → (a ≡ true → b ≡ true) → implies two a b ≡ true
-implies-back true b f = f refl
-implies-back false b f = refl
-
 module _ (e : ℕ → Bool) (p : ℕ → ℕ → Bool) where
   module _ (α β : ℕ → Bool) (P Q : ℕ → Type 0) (h : (t : ℕ) → (α t ≡ true) ↔ P t) (k : (t : ℕ) → (β t ≡ true) ↔ Q t) where
     since-agrees : (lower upper t : ℕ) → (since two (plain e p) α β lower upper t ≡ true) ↔ Since-holds e P Q lower upper t
@@ -92,7 +85,7 @@ module _ (e : ℕ → Bool) (p : ℕ → ℕ → Bool) where
               latest = omega arith;
               is-point = y .0;
               right = k (r .0) .0 (y .1);
-              left = λ s a b c. h s .0 (implies-there (e s) (α s) (all-true (after-start (r .0)) (after-count (r .0) t) _ (x .1) s (omega arith) (omega arith)) c);
+              left = λ s a b c. h s .0 (imply (e s) (α s) (all-true (after-start (r .0)) (after-count (r .0) t) _ (x .1) s (omega arith) (omega arith)) c);
             }
 
         back : Since-holds e P Q lower upper t → any two (since-start upper t) (since-count lower upper t) (λ j. meet two (meets two (plain e p) β j) (keeps two (plain e p) α (after-start j) (after-count j t))) ≡ true
@@ -101,7 +94,7 @@ module _ (e : ℕ → Bool) (p : ℕ → ℕ → Bool) where
             let m = z .latest in
             any-some (since-start upper t) (since-count lower upper t) _ (z .j) (omega arith) (omega arith)
             (meets-both (meets-both (z .is-point) (k (z .j) .1 (z .right)))
-            (all-each (after-start (z .j)) (after-count (z .j) t) _ (λ s a b. implies-back (e s) (α s) (λ c. h s .1 (z .left s (omega arith) (omega arith) c)))))
+            (all-each (after-start (z .j)) (after-count (z .j) t) _ (λ s a b. implied (e s) (α s) (λ c. h s .1 (z .left s (omega arith) (omega arith) c)))))
 
     until-agrees : (lower upper t : ℕ) → (until two (plain e p) α β lower upper t ≡ true) ↔ Until-holds e P Q lower upper t
     unfolding until
@@ -120,7 +113,7 @@ module _ (e : ℕ → Bool) (p : ℕ → ℕ → Bool) where
               latest = omega arith;
               is-point = y .0;
               right = k (r .0) .0 (y .1);
-              left = λ s a b c. h s .0 (implies-there (e s) (α s) (all-true (before-start t) (before-count (r .0) t) _ (x .1) s (omega arith) (omega arith)) c);
+              left = λ s a b c. h s .0 (imply (e s) (α s) (all-true (before-start t) (before-count (r .0) t) _ (x .1) s (omega arith) (omega arith)) c);
             }
 
         back : Until-holds e P Q lower upper t → any two (until-start lower t) (until-count lower upper) (λ j. meet two (meets two (plain e p) β j) (keeps two (plain e p) α (before-start t) (before-count j t))) ≡ true
@@ -129,7 +122,7 @@ module _ (e : ℕ → Bool) (p : ℕ → ℕ → Bool) where
             let m = z .latest in
             any-some (until-start lower t) (until-count lower upper) _ (z .j) (omega arith) (omega arith)
             (meets-both (meets-both (z .is-point) (k (z .j) .1 (z .right)))
-            (all-each (before-start t) (before-count (z .j) t) _ (λ s a b. implies-back (e s) (α s) (λ c. h s .1 (z .left s (omega arith) (omega arith) c)))))
+            (all-each (before-start t) (before-count (z .j) t) _ (λ s a b. implied (e s) (α s) (λ c. h s .1 (z .left s (omega arith) (omega arith) c)))))
 
   meaning-agrees : (X : ℕ → ℕ → Bool) (P : ℕ → ℕ → Type 0) → ((i t : ℕ) → (X i t ≡ true) ↔ P i t) → (φ : Formula) (t : ℕ)
       → (meaning two (plain e p) X φ t ≡ true) ↔ Says e p P φ t

@@ -1,14 +1,13 @@
 -- The verdict sheet, rule by rule: the line at hand, where it is a rule, is the next one in order, and its verdicts are its row's codes at the
 -- known time points. Assumes nothing.
-use Prim.Native.Nat.{ℕ, suc, _+_, _-_, _*_, _/_, _%_, _≤_, _<_}
+use Prim.Native.Nat.{ℕ, _+_, _*_, _/_, _%_, _≤_, _<_}
 use native.Mathlib.Nat.{zero-mul, suc-mul}
 use native.Mathlib.Numerals.{add-one}
 use native.Mathlib.Omega.{arith}
 use mathlib.Core.Path.{_≡_, refl, sym, ap, ap₂, subst, _∙_}
 use mathlib.Core.Bool.{Bool, true, false, cond}
-use mathlib.Core.List.{List, [], _∷_, _++_, append-assoc}
-use lib.Dec.{eqb}
-use lib.ListN.{getD, length, take, drop, length-append, length-take, length-drop}
+use mathlib.Core.List.{List, _++_, append-assoc}
+use lib.ListN.{getD, length, take, drop, length-append, length-drop}
 use lib.Seq.{length-take-le, getD-take, getD-drop, take-at}
 use Rattle.kleene.specs.Truth.{true3, false3, unknown, codeOf}
 use Rattle.rows.specs.Over.{Over}
@@ -18,7 +17,7 @@ use Rattle.rows.specs.Parts.{put-in, from-front}
 use Rattle.policy.specs.declared.Policy.{Policy}
 use Rattle.policy.specs.declared.Sizes.{Sizes}
 use Rattle.policy.specs.Format.{noLine, ruleLines}
-use Rattle.policy.specs.Proper.{Proper, rulesOf}
+use Rattle.policy.specs.Proper.{Proper}
 use Rattle.knowledge.specs.Knowledge.{Knowledge, is-point, is-none, point-known}
 use Rattle.valuation.specs.Sheets.{value, verdict, valuation-of, verdicts-of, standing}
 use Rattle.valuation.specs.Rows.{Points}

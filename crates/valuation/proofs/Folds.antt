@@ -1,28 +1,27 @@
 -- The folds at a threshold k: an or reaches k where one of its parts does, and an and where each of its parts does. By induction on how
 -- many parts there are. Assumes nothing.
-use mathlib.Core.Path.{_≡_, subst}
+use mathlib.Core.Path.{_≡_, sym, subst}
 use mathlib.Core.Logic.{⊎-elim}
-use Prim.Native.Nat.{ℕ, zero, suc, _+_, _-_, _≤_, _<_}
+use Prim.Native.Nat.{ℕ, zero, suc, _+_, _≤_, _<_}
 use native.Mathlib.Nat.{eq-or-lt-of-le}
 use native.Mathlib.Omega.{arith}
-use Rattle.kleene.specs.Truth.{Truth, not3, implies3}
-use Rattle.kleene.specs.Rank.{rankOf, rank-le, rank-or, rank-and, rank-not}
+use Rattle.kleene.specs.Truth.{Truth}
+use Rattle.kleene.specs.Rank.{rank-of, rank-or, rank-and}
 use Rattle.mtl.specs.Algebra.{three, any, all}
-use Rattle.valuation.specs.Indexes.{broken}
 
 module _ (k : ℕ) (f : ℕ → Truth) (lo : ℕ) where
-  pub any-some : (n j : ℕ) → lo ≤ j → j < lo + n → k ≤ rankOf (f j) → k ≤ rankOf (any three lo n f)
+  pub any-some : (n j : ℕ) → lo ≤ j → j < lo + n → k ≤ rank-of (f j) → k ≤ rank-of (any three lo n f)
   any-some zero j p q h = omega arith
   any-some (suc n) j p q h =
       let le : j ≤ lo + n = omega arith in
       let ih = any-some n j p in
       ⊎-elim
-      (λ (e : j ≡ lo + n). omega (arith, rank-or (any three lo n f) (f (lo + n)), subst (λ (i : ℕ). k ≤ rankOf (f i)) e h))
+      (λ (e : j ≡ lo + n). omega (arith, rank-or (any three lo n f) (f (lo + n)), subst (λ (i : ℕ). k ≤ rank-of (f i)) e h))
       (λ (l : j < lo + n). omega (arith, rank-or (any three lo n f) (f (lo + n)), ih l h))
       (eq-or-lt-of-le le)
 
-  pub any-none : (n : ℕ) → 0 < k → ((j : ℕ) → lo ≤ j → j < lo + n → rankOf (f j) < k) → rankOf (any three lo n f) < k
-  unfolding rankOf
+  pub any-none : (n : ℕ) → 0 < k → ((j : ℕ) → lo ≤ j → j < lo + n → rank-of (f j) < k) → rank-of (any three lo n f) < k
+  unfolding rank-of
   any-none zero p h = p
   any-none (suc n) p h =
       omega (
@@ -32,8 +31,8 @@ module _ (k : ℕ) (f : ℕ → Truth) (lo : ℕ) where
         h (lo + n) (omega arith) (omega arith),
       )
 
-  pub all-each : (n : ℕ) → k ≤ 2 → ((s : ℕ) → lo ≤ s → s < lo + n → k ≤ rankOf (f s)) → k ≤ rankOf (all three lo n f)
-  unfolding rankOf
+  pub all-each : (n : ℕ) → k ≤ 2 → ((s : ℕ) → lo ≤ s → s < lo + n → k ≤ rank-of (f s)) → k ≤ rank-of (all three lo n f)
+  unfolding rank-of
   all-each zero p h = p
   all-each (suc n) p h =
       omega (
@@ -43,17 +42,13 @@ module _ (k : ℕ) (f : ℕ → Truth) (lo : ℕ) where
         h (lo + n) (omega arith) (omega arith),
       )
 
-  pub all-fails : (n s : ℕ) → lo ≤ s → s < lo + n → rankOf (f s) < k → rankOf (all three lo n f) < k
-  all-fails zero s p q h = omega arith
-  all-fails (suc n) s p q h =
+  pub all-at : (n s : ℕ) → lo ≤ s → s < lo + n → k ≤ rank-of (all three lo n f) → k ≤ rank-of (f s)
+  all-at zero s p q h = omega arith
+  all-at (suc n) s p q h =
       let le : s ≤ lo + n = omega arith in
-      let ih = all-fails n s p in
+      let both = rank-and (all three lo n f) (f (lo + n)) in
+      let ih = all-at n s p in
       ⊎-elim
-      (λ (e : s ≡ lo + n). omega (arith, rank-and (all three lo n f) (f (lo + n)), subst (λ (i : ℕ). rankOf (f i) < k) e h))
-      (λ (l : s < lo + n). omega (arith, rank-and (all three lo n f) (f (lo + n)), ih l h))
+      (λ (e : s ≡ lo + n). subst (λ (i : ℕ). k ≤ rank-of (f i)) (sym e) (omega arith))
+      (λ (l : s < lo + n). ih l (omega arith))
       (eq-or-lt-of-le le)
-
--- to go on, (not e(s) or α(s)), is not to break off
-pub goes-on : (e α : ℕ → Truth) (s : ℕ) → rankOf (implies3 (e s) (α s)) ≡ 2 - broken e α s
-unfolding broken
-goes-on e α s = omega (arith, rank-or (not3 (e s)) (α s), rank-not (e s), rank-and (e s) (not3 (α s)), rank-not (α s), rank-le (e s), rank-le (α s))

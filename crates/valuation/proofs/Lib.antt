@@ -2,8 +2,7 @@ pub mod Folds
 pub mod Steps
 pub mod Shown
 pub mod Facts
-pub mod Since
-pub mod Until
+pub mod Spans
 pub mod Work
 pub mod Standing
 pub mod Rules

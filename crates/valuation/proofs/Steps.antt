@@ -1,14 +1,14 @@
 -- A running index after one minute more: it moves there where that minute reaches the threshold, and else stays. Assumes nothing.
-use mathlib.Core.Path.{_≡_, refl, sym, subst}
+use mathlib.Core.Path.{_≡_, refl, sym, ap, subst, _∙_}
 use mathlib.Core.Bool.{Bool, true, false, cond}
 use mathlib.Core.Logic.{⊎-elim}
-use Prim.Native.Nat.{ℕ, _+_, _≤_, _<_}
+use Prim.Native.Nat.{ℕ, _+_, _-_, _≤_, _<_}
 use native.Mathlib.Nat.{eq-or-lt-of-le}
 use native.Mathlib.Omega.{arith}
 use lib.Dec.{leb}
 use borrow.Author.Tests.{leb-true, leb-false}
 use Rattle.valuation.specs.declared.Nearest.{Nearest}
-use Rattle.valuation.specs.Indexes.{moved, far, Last, First, Lasts, Firsts}
+use Rattle.valuation.specs.Indexes.{moved, Last, Lasts, far, turned, turned-nearest, Firsts}
 
 -- what an index's step has to show in either case
 by-test : (P : ℕ → Type 0) (k v here old : ℕ) → (k ≤ v → P here) → (v < k → P old) → P (moved k v here old)
@@ -18,10 +18,10 @@ by-test P k v here old y n = go (leb k v) refl
     go true e = y (leb-true k v e)
     go false e = n (leb-false k v e)
 
-module _ (k t v old : ℕ) (f : ℕ → ℕ) (at : v ≡ f t) where
-  last-step : Last k f t old → Last k f (t + 1) (moved k v (t + 1) old)
-  last-step l =
-      by-test (Last k f (t + 1)) k v (t + 1) old
+module _ (t here v : ℕ) (f : ℕ → ℕ) (next : here ≡ t + 1) (at : v ≡ f t) where
+  last-step : (k old : ℕ) → Last k f t old → Last k f here (moved k v here old)
+  last-step k old l =
+      by-test (Last k f here) k v here old
       (λ h. record {
         within = omega arith;
         there = λ i e. let q : t ≡ i = omega arith in subst (λ (j : ℕ). k ≤ f j) q (subst (λ (x : ℕ). k ≤ x) at h);
@@ -35,45 +35,42 @@ module _ (k t v old : ℕ) (f : ℕ → ℕ) (at : v ≡ f t) where
             ⊎-elim (λ (e : i ≡ t). subst (λ (j : ℕ). f j < k) (sym e) (subst (λ (x : ℕ). x < k) at h)) (λ (w : i < t). l .after i a w) (eq-or-lt-of-le le);
       })
 
-  first-step : First k f (t + 1) old → First k f t (moved k v t old)
-  first-step l =
-      by-test (First k f t) k v t old
-      (λ h. record { within = omega arith; there = λ w. subst (λ (x : ℕ). k ≤ x) at h; before = λ i a b. absurd (let z : ⊥ = omega arith in z) })
-      (λ h. record {
-        within = omega (arith, l .within);
-        there = l .there;
-        before = λ i a b.
-            ⊎-elim (λ (e : t ≡ i). subst (λ (j : ℕ). f j < k) e (subst (λ (x : ℕ). x < k) at h)) (λ (w : t < i). l .before i (omega arith) b) (eq-or-lt-of-le a);
-      })
-
--- both indexes at once
-module _ (t v : ℕ) (p q : Nearest) (f : ℕ → ℕ) (at : v ≡ f t) where
-  pub lasts-step : (q .sure ≡ moved 2 v (t + 1) (p .sure)) × (q .may ≡ moved 1 v (t + 1) (p .may)) → Lasts f t p → Lasts f (t + 1) q
-  lasts-step m l =
+  -- both indexes at once
+  pub lasts-step : (p q : Nearest) → (q .sure ≡ moved 2 v here (p .sure)) × (q .may ≡ moved 1 v here (p .may)) → Lasts f t p → Lasts f here q
+  lasts-step p q m l =
       record {
-        sure = rw (m .0) (last-step 2 t v (p .sure) f at (l .sure));
-        may = rw (m .1) (last-step 1 t v (p .may) f at (l .may));
+        sure = rw (m .0) (last-step 2 (p .sure) (l .sure));
+        may = rw (m .1) (last-step 1 (p .may) (l .may));
       }
 
-  pub firsts-step : (q .sure ≡ moved 2 v t (p .sure)) × (q .may ≡ moved 1 v t (p .may)) → Firsts f (t + 1) p → Firsts f t q
-  firsts-step m l =
-      record {
-        sure = rw (m .0) (first-step 2 t v (p .sure) f at (l .sure));
-        may = rw (m .1) (first-step 1 t v (p .may) f at (l .may));
-      }
+-- where everything before n is unknown, none is sure, and the last that may be is the last there is
+lasts-unknown : (f : ℕ → ℕ) (n : ℕ) → ((i : ℕ) → i < n → f i ≡ 1) → Lasts f n (record { sure = 0; may = n })
+lasts-unknown f n h =
+    record {
+      sure = record { within = omega arith; there = λ i e. absurd (let z : ⊥ = omega arith in z); after = λ i a b. omega (arith, h i b) };
+      may = record { within = omega arith; there = λ i e. omega (arith, h i (omega arith)); after = λ i a b. absurd (let z : ⊥ = omega arith in z) };
+    }
 
 -- before any minute there is none
-pub no-last : (f : ℕ → ℕ) (n : ℕ) → n ≡ 0 → Lasts f n (record { sure = 0; may = 0 })
-no-last f n e =
-    record {
-      sure = record { within = omega arith; there = λ i z. absurd (let z : ⊥ = omega arith in z); after = λ i a b. absurd (let z : ⊥ = omega arith in z) };
-      may = record { within = omega arith; there = λ i z. absurd (let z : ⊥ = omega arith in z); after = λ i a b. absurd (let z : ⊥ = omega arith in z) };
-    }
+pub lasts-none : (f : ℕ → ℕ) (n : ℕ) → n ≡ 0 → Lasts f n (record { sure = 0; may = 0 })
+lasts-none f n e = rw e (lasts-unknown f 0 (λ i h. absurd (let z : ⊥ = omega arith in z)))
 
--- where everything is unknown, from n on
-pub no-first : (f : ℕ → ℕ) (n : ℕ) → n ≤ far → ((i : ℕ) → n ≤ i → f i ≡ 1) → Firsts f n (record { sure = far; may = n })
-no-first f n l h =
-    record {
-      sure = record { within = l; there = λ r. absurd (let z : ⊥ = omega arith in z); before = λ i a b. omega (arith, h i a) };
-      may = record { within = omega arith; there = λ r. omega (arith, h n (omega arith)); before = λ i a b. absurd (let z : ⊥ = omega arith in z) };
-    }
+-- ---- going down
+
+moved-turned : (k v here old r : ℕ) → r ≡ moved k v here old → far - r ≡ moved k v (far - here) (far - old)
+moved-turned k v here old r e = ap (λ (n : ℕ). far - n) e ∙ go (leb k v)
+  where
+    go : (b : Bool) → far - cond b here old ≡ cond b (far - here) (far - old)
+    go true = refl
+    go false = refl
+
+pub firsts-step : (t v : ℕ) (f : ℕ → ℕ) → t < far → v ≡ f t → (p q : Nearest)
+    → (q .sure ≡ moved 2 v t (p .sure)) × (q .may ≡ moved 1 v t (p .may)) → Firsts f (t + 1) p → Firsts f t q
+firsts-step t v f near at p q m l =
+    let next : far - t ≡ far - (t + 1) + 1 = omega arith in
+    let same : t ≡ far - 1 - (far - (t + 1)) = omega arith in
+    lasts-step (far - (t + 1)) (far - t) v (turned f) next (at ∙ ap f same) (turned-nearest p) (turned-nearest q)
+    (moved-turned 2 v t (p .sure) (q .sure) (m .0), moved-turned 1 v t (p .may) (q .may) (m .1)) l
+
+pub firsts-unknown : (f : ℕ → ℕ) (n : ℕ) → ((i : ℕ) → n ≤ i → f i ≡ 1) → Firsts f n (record { sure = far; may = n })
+firsts-unknown f n h = lasts-unknown (turned f) (far - n) (λ i l. h (far - 1 - i) (omega arith))

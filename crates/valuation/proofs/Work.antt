@@ -1,10 +1,9 @@
 -- A subformula's row is worked from earlier rows because the reading is: inside the window each value is made of its operands' values, and
 -- outside everything is unknown, as it is past the end of a row. Assumes nothing.
-use Prim.Native.Nat.{ℕ, suc, _+_, _-_, _*_, _/_, _%_, _≤_, _<_}
+use Prim.Native.Nat.{ℕ, _+_, _-_, _*_, _/_, _%_, _≤_, _<_}
 use native.Mathlib.Omega.{arith}
 use native.Mathlib.Decide.{decLt}
 use mathlib.Core.Path.{_≡_, refl, sym, ap, ap₂, subst, _∙_}
-use mathlib.Core.Bool.{true, false}
 use mathlib.Core.List.{List, _++_}
 use lib.ListN.{getD, length, take, drop, length-append, length-take, length-drop, List·getD-eq-default}
 use lib.Seq.{length-take-le, getD-take, getD-drop, drop-drop}
@@ -18,7 +17,7 @@ use Rattle.mtl.specs.Algebra.{three}
 use Rattle.mtl.specs.declared.Formula.{Formula}
 use Rattle.mtl.specs.declared.Formula.the-variants.{True, Proposition, Not, Or, Since, Until}
 use Rattle.mtl.specs.Syntax.{Earlier, Proposes}
-use Rattle.mtl.specs.Reading.{point, seen, meaning, reading}
+use Rattle.mtl.specs.Reading.{point, seen, meaning}
 use Rattle.mtl.specs.Related.{operands-map}
 use Rattle.mtl.specs.Unroll.{unroll}
 use Rattle.policy.specs.declared.Sizes.{Sizes}

@@ -1,21 +1,26 @@
 -- The running indexes of since and until. A threshold k is 2 for "surely so" and 1 for "may be so", in the order of truth.
-use Prim.Native.Nat.{ℕ, _+_, _≤_, _<_}
+use Prim.Native.Nat.{ℕ, _+_, _-_, _≤_, _<_}
 use mathlib.Core.Path.{_≡_}
-use mathlib.Core.Bool.{cond}
+use mathlib.Core.Bool.{Bool, true, false, cond}
 use mathlib.Core.List.{List}
 use lib.Dec.{leb}
 use lib.ListN.{getD}
-use Rattle.kleene.specs.Truth.{Truth, not3, and3}
-use Rattle.kleene.specs.Rank.{rankOf}
+use Rattle.kleene.specs.Truth.{Truth, and3}
+use Rattle.kleene.specs.Rank.{rank-of}
+use Rattle.kleene.specs.Tests.{literal}
 use Rattle.valuation.specs.declared.Nearest.{Nearest}
 
--- e(j) and β(j), where it begins: as a rank
-unfoldable pub begun : (ℕ → Truth) → (ℕ → Truth) → ℕ → ℕ
-begun e β j = rankOf (and3 (e j) (β j))
+-- e(j) and f(j), or e(j) and not f(j): as a rank
+unfoldable pub ranked : Bool → (ℕ → Truth) → (ℕ → Truth) → ℕ → ℕ
+ranked negated e f j = rank-of (and3 (e j) (literal negated (f j)))
 
--- e(s) and not α(s), where it breaks off: as a rank
-unfoldable pub broken : (ℕ → Truth) → (ℕ → Truth) → ℕ → ℕ
-broken e α s = rankOf (and3 (e s) (not3 (α s)))
+-- e(j) and β(j), where a since or until begins
+abbrev pub begun : (ℕ → Truth) → (ℕ → Truth) → ℕ → ℕ
+begun = ranked false
+
+-- e(s) and not α(s), where it breaks off
+abbrev pub broken : (ℕ → Truth) → (ℕ → Truth) → ℕ → ℕ
+broken = ranked true
 
 -- the first m cells are f's ranks
 abbrev pub Ranks : ℕ → (ℕ → ℕ) → List ℕ → Type 0
@@ -31,22 +36,22 @@ pub record Last (k : ℕ) (f : ℕ → ℕ) (n r : ℕ) : Type 0 where
   pub there : (i : ℕ) → r ≡ i + 1 → k ≤ f i
   pub after : (i : ℕ) → r ≤ i → i < n → f i < k
 
--- past every minute that is asked for
-abbrev pub far : ℕ
-far = 4096
-
--- r is the first i with n ≤ i and k ≤ f i; r is far where there is none before far
-pub record First (k : ℕ) (f : ℕ → ℕ) (n r : ℕ) : Type 0 where
-  pub within : n ≤ r
-  pub there : r < far → k ≤ f r
-  pub before : (i : ℕ) → n ≤ i → i < r → f i < k
-
 -- going up, before minute n
 pub record Lasts (f : ℕ → ℕ) (n : ℕ) (p : Nearest) : Type 0 where
   pub sure : Last 2 f n (p .sure)
   pub may : Last 1 f n (p .may)
 
--- going down, from minute n on
-pub record Firsts (f : ℕ → ℕ) (n : ℕ) (p : Nearest) : Type 0 where
-  pub sure : First 2 f n (p .sure)
-  pub may : First 1 f n (p .may)
+-- past every minute that is asked for
+abbrev pub far : ℕ
+far = 4096
+
+-- going down is going up with time turned round
+abbrev pub turned : (ℕ → ℕ) → ℕ → ℕ
+turned f i = f (far - 1 - i)
+
+abbrev pub turned-nearest : Nearest → Nearest
+turned-nearest p = record { sure = far - p .sure; may = far - p .may }
+
+-- the first i with n ≤ i and k ≤ f i; far where there is none before far
+abbrev pub Firsts : (ℕ → ℕ) → ℕ → Nearest → Type 0
+Firsts f n p = Lasts (turned f) (far - n) (turned-nearest p)

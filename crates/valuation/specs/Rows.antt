@@ -9,6 +9,13 @@ use Rattle.mtl.specs.Syntax.{Operands, Proposes, Bounded}
 use Rattle.policy.specs.declared.Sizes.{Sizes}
 use Rattle.knowledge.specs.Knowledge.{Knowledge, point-known}
 
+-- 01: minutes, 1 to 1,024, and the bounds of an interval, at most 1,023
+abbrev pub most-minutes : ℕ
+most-minutes = 1024
+
+abbrev pub most-bound : ℕ
+most-bound = 1023
+
 -- the codes stand for f's values, and past the end both are unknown
 abbrev pub Shows : List ℕ → (ℕ → Truth) → Type 0
 Shows l f = (t : ℕ) → valueOf (getD l t 0) ≡ f t
@@ -31,9 +38,9 @@ Points z k points = (t : ℕ) → t < z .minutes → getD points t 0 ≡ codeOf 
 
 -- what a subformula's row is worked from: its operands' rows are there, and its bounds are in range
 pub record Workable (z : Sizes) (φ : Formula) (p f l : List ℕ) : Type 0 where
-  pub minutes : z .minutes ≤ 1024
-  pub points : length p ≡ 1024
+  pub minutes : z .minutes ≤ most-minutes
+  pub points : length p ≡ most-minutes
   pub facts : length f ≡ 2 * z .minutes
   pub operands : Operands (λ i. i * z .minutes + z .minutes ≤ length l) φ
   pub proposes : Proposes 32 φ
-  pub bounded : Bounded 1023 φ
+  pub bounded : Bounded most-bound φ

@@ -1,10 +1,10 @@
 -- 01: the work sheet, "bytes, lines times M (0 unknown, 1 true, 2 false)", and the verdict sheet, "bytes, rules times M (0 blank, 1 kept,
 -- 2 broken)", over a policy and some knowledge.
-use Prim.Native.Nat.{ℕ, zero, suc, _+_, _*_, _/_, _%_}
-use mathlib.Core.Bool.{Bool, true, false, cond}
+use Prim.Native.Nat.{ℕ, _+_, _*_, _/_, _%_}
+use mathlib.Core.Bool.{cond}
 use mathlib.Core.List.{List, [], _∷_}
 use lib.Dec.{eqb}
-use lib.ListN.{getD, length}
+use lib.ListN.{getD}
 use Rattle.kleene.specs.Truth.{Truth, codeOf}
 use Rattle.rows.specs.Grid.{table}
 use Rattle.mtl.specs.Algebra.{three}

@@ -1,5 +1,10 @@
 // The valuation (01: the work sheet) and the verdicts (01: the verdict sheet).
 // A row is worked into an array of its own from the rows of the subformulas that it names, a constant time a minute whatever the interval.
+use kleene::FALSE;
+use kleene::MAY;
+use kleene::SURE;
+use kleene::TRUE;
+use kleene::UNKNOWN;
 use mtl::Formula;
 use policy::Policy;
 use policy::Sizes;
@@ -8,17 +13,20 @@ ghost use mathlib.Core.List.{_++_};
 ghost use Prim.Native.Nat.{ℕ, _+_, _-_, _*_, _≤_, _<_};
 ghost use lib.ListN.{length, getD, take, drop};
 ghost use lib.Dec.{leb};
-ghost use Rattle.kleene.specs.Truth.{Truth, codeOf, valueOf, true3, not3, or3};
-ghost use Rattle.kleene.specs.Rank.{rankOf};
+ghost use Rattle.kleene.specs.Truth.{Truth, codeOf, true3, not3, or3};
+ghost use Rattle.kleene.specs.Rank.{rank-of};
 ghost use Rattle.rows.specs.Over.{Over};
 ghost use Rattle.mtl.specs.Algebra.{three};
 ghost use Rattle.mtl.specs.Reading.{World, point, since, until, meaning};
 ghost use Rattle.knowledge.specs.Knowledge.{Knowledge, fact, world};
 ghost use Rattle.policy.specs.Proper.{Proper};
 ghost use Rattle.valuation.specs.Sheets.{valuation-of, verdicts-of, standing};
-ghost use Rattle.valuation.specs.Rows.{Shows, Row, run, Rows, Points, Workable};
+ghost use Rattle.valuation.specs.Rows.{most-minutes, most-bound, Shows, Row, run, Rows, Points, Workable};
 ghost use Rattle.valuation.specs.Verdicts.{verdict-code, one-stands, VerdictRow};
-ghost use Rattle.valuation.specs.Indexes.{begun, broken, Ranks, moved, far, Last, First, Lasts, Firsts};
+ghost use Rattle.valuation.specs.Indexes.{ranked, begun, broken, Ranks, moved, far, Lasts, Firsts};
+
+// 01: a policy has 1 to 1,024 minutes.
+pub const MOST_MINUTES: usize = 1024;
 
 // The nearest minute at which a truth is surely so, and at which it may be so.
 pub struct Nearest {
@@ -30,13 +38,13 @@ pub struct Nearest {
 fn note(nearest: Nearest, here: usize, rank: u8) -> Nearest
     ensures { λ r. ⌜ (r .sure ≡ moved 2 rank here (nearest .sure)) × (r .may ≡ moved 1 rank here (nearest .may)) ⌝ }
 {
-    if 2 <= rank {
+    if SURE <= rank {
         return Nearest {
             sure: here,
             may: here,
         };
     }
-    if 1 <= rank {
+    if MAY <= rank {
         return Nearest {
             sure: nearest.sure,
             may: here,
@@ -47,39 +55,29 @@ fn note(nearest: Nearest, here: usize, rank: u8) -> Nearest
 
 // The code of a value that is surely true, or may be true.
 fn code(sure: bool, may: bool) -> u8
-    ensures { λ r. ⌜ ((x : Truth) → sure ≡ leb 2 (rankOf x) → may ≡ leb 1 (rankOf x) → r ≡ codeOf x) ⌝ }
+    ensures { λ r. ⌜ ((x : Truth) → sure ≡ leb 2 (rank-of x) → may ≡ leb 1 (rank-of x) → r ≡ codeOf x) ⌝ }
 {
     if sure {
-        return 1;
+        return TRUE;
     }
     if may {
-        return 0;
+        return UNKNOWN;
     }
-    2
+    FALSE
 }
 
 // ---- where a since or until may begin and break off, for all minutes at once before they are passed one by one
 
-// Writes the rank of `e and right` at each minute: where it begins.
-fn rank_begins(points: &[u8], right: &[u8], ranks: &mut [u8; 1024])
-    requires { ⌜ (length (now points) ≤ 1024) × (length (now right) ≡ length (now points)) × (length (now ranks) ≡ 1024) ⌝ }
-    ensures { λ _. ⌜ (length (now (ranks .exit)) ≡ 1024) × ((e β : ℕ → Truth) → Shows (now (points .entry)) e → Shows (now (right .entry)) β → Ranks (length (now (points .entry))) (begun e β) (now (ranks .exit))) ⌝ }
+// Writes the rank of `e and operand` at each minute, where a since or until begins, or, negated, of `e and not operand`, where it breaks off.
+fn rank_row(points: &[u8], operand: &[u8], negated: bool, ranks: &mut [u8; MOST_MINUTES])
+    requires { ⌜ (length (now points) ≤ most-minutes) × (length (now operand) ≡ length (now points)) × (length (now ranks) ≡ most-minutes) ⌝ }
+    ensures { λ _. ⌜ (length (now (ranks .exit)) ≡ most-minutes)
+        × ((e f : ℕ → Truth) → Shows (now (points .entry)) e → Shows (now (operand .entry)) f
+        → Ranks (length (now (points .entry))) (ranked negated e f) (now (ranks .exit))) ⌝ }
 {
     let mut t: usize = 0;
     while t < points.len() {
-        ranks[t] = kleene::both(points[t], right[t]);
-        t += 1;
-    }
-}
-
-// Writes the rank of `e and not left` at each minute: where it breaks off.
-fn rank_breaks(points: &[u8], left: &[u8], ranks: &mut [u8; 1024])
-    requires { ⌜ (length (now points) ≤ 1024) × (length (now left) ≡ length (now points)) × (length (now ranks) ≡ 1024) ⌝ }
-    ensures { λ _. ⌜ (length (now (ranks .exit)) ≡ 1024) × ((e α : ℕ → Truth) → Shows (now (points .entry)) e → Shows (now (left .entry)) α → Ranks (length (now (points .entry))) (broken e α) (now (ranks .exit))) ⌝ }
-{
-    let mut t: usize = 0;
-    while t < points.len() {
-        ranks[t] = kleene::apart(points[t], left[t]);
+        ranks[t] = kleene::rank_of_and(points[t], operand[t], negated);
         t += 1;
     }
 }
@@ -87,9 +85,10 @@ fn rank_breaks(points: &[u8], left: &[u8], ranks: &mut [u8; 1024])
 // ---- since
 
 // Passes the begin that comes into the interval at minute t, if there is one.
-fn since_begin(ranks: &[u8; 1024], lower: usize, t: usize, begins: Nearest) -> Nearest
-    requires { ⌜ (t < 1024) × (length (now ranks) ≡ 1024) ⌝ }
-    ensures { λ r. ⌜ ((m : ℕ) (f : ℕ → ℕ) → t < m → Ranks m f (now (ranks .entry)) → Lasts f (t - lower) begins → Lasts f (t + 1 - lower) r) ⌝ }
+fn since_begin(ranks: &[u8; MOST_MINUTES], lower: usize, t: usize, begins: Nearest) -> Nearest
+    requires { ⌜ (t < most-minutes) × (length (now ranks) ≡ most-minutes) ⌝ }
+    ensures { λ r. ⌜ ((m : ℕ) (f : ℕ → ℕ) → t < m → Ranks m f (now (ranks .entry)) → Lasts f (t - lower) begins
+        → Lasts f (t + 1 - lower) r) ⌝ }
 {
     if t < lower {
         return begins;
@@ -100,31 +99,21 @@ fn since_begin(ranks: &[u8; 1024], lower: usize, t: usize, begins: Nearest) -> N
 
 // Where the interval starts at minute t + 1, from where it starts at minute t: not before minute 0.
 fn next_start(start: usize, t: usize, upper: usize) -> usize
-    requires { ⌜ (start ≡ t - upper) × (t ≤ 1024) ⌝ }
+    requires { ⌜ (start ≡ t - upper) × (t ≤ most-minutes) ⌝ }
     ensures { λ r. ⌜ r ≡ t + 1 - upper ⌝ }
 {
     if t < upper { start } else { start + 1 }
 }
 
-// Does the since reach a threshold: is the last begin that does in the interval, which starts here, with no break after it?
-fn since_reaches(start: usize, begin: usize, stop: usize) -> bool
-    ensures { λ r. ⌜ ((w : World Truth) (α β : ℕ → Truth) (lower upper t k : ℕ) → start ≡ t - upper → 0 < k → k ≤ 2 → Last k (begun (point three w) β) (t + 1 - lower) begin → Last (3 - k) (broken (point three w) α) (t + 1) stop → r ≡ leb k (rankOf (since three w α β lower upper t))) ⌝ }
-{
-    if begin <= start {
-        return false;
-    }
-    if begin < stop {
-        return false;
-    }
-    true
-}
-
-// The value at a minute that is passed, whose interval starts here.
+// The value at a minute that is passed, whose interval starts here: it reaches a threshold where the last begin that does is in the interval,
+// with no break after it.
 fn since_value(start: usize, begins: Nearest, breaks: Nearest) -> u8
-    ensures { λ r. ⌜ ((w : World Truth) (α β : ℕ → Truth) (lower upper t : ℕ) → start ≡ t - upper → Lasts (begun (point three w) β) (t + 1 - lower) begins → Lasts (broken (point three w) α) (t + 1) breaks → r ≡ codeOf (since three w α β lower upper t)) ⌝ }
+    ensures { λ r. ⌜ ((w : World Truth) (α β : ℕ → Truth) (lower upper t : ℕ) → start ≡ t - upper
+        → Lasts (begun (point three w) β) (t + 1 - lower) begins → Lasts (broken (point three w) α) (t + 1) breaks
+        → r ≡ codeOf (since three w α β lower upper t)) ⌝ }
 {
-    let sure = since_reaches(start, begins.sure, breaks.may);
-    let may = since_reaches(start, begins.may, breaks.sure);
+    let sure = (start < begins.sure) & (breaks.may <= begins.sure);
+    let may = (start < begins.may) & (breaks.sure <= begins.may);
     code(sure, may)
 }
 
@@ -136,14 +125,19 @@ pub fn since_row(
     right: &[u8],
     lower: usize,
     upper: usize,
-    ranks: &mut [u8; 1024],
-    row: &mut [u8; 1024],
+    ranks: &mut [u8; MOST_MINUTES],
+    row: &mut [u8; MOST_MINUTES],
 )
-    requires { ⌜ (length (now points) ≤ 1024) × (length (now left) ≡ length (now points)) × (length (now right) ≡ length (now points)) × (length (now ranks) ≡ 1024) × (length (now row) ≡ 1024) ⌝ }
-    ensures { λ _. ⌜ (length (now (ranks .exit)) ≡ 1024) × (length (now (row .exit)) ≡ 1024) × ((w : World Truth) (α β : ℕ → Truth) → Shows (now (points .entry)) (point three w) → Shows (now (left .entry)) α → Shows (now (right .entry)) β → Row (length (now (points .entry))) (since three w α β lower upper) (now (row .exit))) ⌝ }
+    requires { ⌜ (length (now points) ≤ most-minutes)
+        × (length (now left) ≡ length (now points)) × (length (now right) ≡ length (now points))
+        × (length (now ranks) ≡ most-minutes) × (length (now row) ≡ most-minutes) ⌝ }
+    ensures { λ _. ⌜ (length (now (ranks .exit)) ≡ most-minutes) × (length (now (row .exit)) ≡ most-minutes)
+        × ((w : World Truth) (α β : ℕ → Truth) → Shows (now (points .entry)) (point three w)
+        → Shows (now (left .entry)) α → Shows (now (right .entry)) β
+        → Row (length (now (points .entry))) (since three w α β lower upper) (now (row .exit))) ⌝ }
 {
-    rank_begins(points, right, ranks);
-    rank_breaks(points, left, row);
+    rank_row(points, right, false, ranks);
+    rank_row(points, left, true, row);
     let mut begins = Nearest { sure: 0, may: 0 };
     let mut breaks = Nearest { sure: 0, may: 0 };
     let mut start: usize = 0;
@@ -160,35 +154,25 @@ pub fn since_row(
 // ---- until
 
 // The rank of the begin at minute j, which is unknown from the end on.
-fn until_begin(ranks: &[u8; 1024], minutes: usize, j: usize) -> u8
-    requires { ⌜ (minutes ≤ 1024) × (length (now ranks) ≡ 1024) ⌝ }
+fn until_begin(ranks: &[u8; MOST_MINUTES], minutes: usize, j: usize) -> u8
+    requires { ⌜ (minutes ≤ most-minutes) × (length (now ranks) ≡ most-minutes) ⌝ }
     ensures { λ r. ⌜ ((f : ℕ → ℕ) → Ranks minutes f (now (ranks .entry)) → (minutes ≤ j → f j ≡ 1) → r ≡ f j) ⌝ }
 {
     if j < minutes {
         return ranks[j];
     }
-    1
+    MAY
 }
 
-// Does the until reach a threshold: is the first begin that does in the interval, which ends here, with no break before it?
-fn until_reaches(end: usize, begin: usize, stop: usize) -> bool
-    ensures { λ r. ⌜ ((w : World Truth) (α β : ℕ → Truth) (lower upper t k : ℕ) → end ≡ t + upper → end < far → 0 < k → k ≤ 2 → First k (begun (point three w) β) (t + lower) begin → First (3 - k) (broken (point three w) α) t stop → r ≡ leb k (rankOf (until three w α β lower upper t))) ⌝ }
-{
-    if end < begin {
-        return false;
-    }
-    if stop < begin {
-        return false;
-    }
-    true
-}
-
-// The value at a minute that is passed, whose interval ends here.
+// The value at a minute that is passed, whose interval ends here: it reaches a threshold where the first begin that does is in the interval,
+// with no break before it.
 fn until_value(end: usize, begins: Nearest, breaks: Nearest) -> u8
-    ensures { λ r. ⌜ ((w : World Truth) (α β : ℕ → Truth) (lower upper t : ℕ) → end ≡ t + upper → end < far → Firsts (begun (point three w) β) (t + lower) begins → Firsts (broken (point three w) α) t breaks → r ≡ codeOf (until three w α β lower upper t)) ⌝ }
+    ensures { λ r. ⌜ ((w : World Truth) (α β : ℕ → Truth) (lower upper t : ℕ) → end ≡ t + upper → end < far
+        → Firsts (begun (point three w) β) (t + lower) begins → Firsts (broken (point three w) α) t breaks
+        → r ≡ codeOf (until three w α β lower upper t)) ⌝ }
 {
-    let sure = until_reaches(end, begins.sure, breaks.may);
-    let may = until_reaches(end, begins.may, breaks.sure);
+    let sure = (begins.sure <= end) & (begins.sure <= breaks.may);
+    let may = (begins.may <= end) & (begins.may <= breaks.sure);
     code(sure, may)
 }
 
@@ -203,14 +187,19 @@ pub fn until_row(
     right: &[u8],
     lower: usize,
     upper: usize,
-    ranks: &mut [u8; 1024],
-    row: &mut [u8; 1024],
+    ranks: &mut [u8; MOST_MINUTES],
+    row: &mut [u8; MOST_MINUTES],
 )
-    requires { ⌜ (length (now points) ≤ 1024) × (length (now left) ≡ length (now points)) × (length (now right) ≡ length (now points)) × (lower ≤ 1023) × (upper ≤ 1023) × (length (now ranks) ≡ 1024) × (length (now row) ≡ 1024) ⌝ }
-    ensures { λ _. ⌜ (length (now (ranks .exit)) ≡ 1024) × (length (now (row .exit)) ≡ 1024) × ((w : World Truth) (α β : ℕ → Truth) → Shows (now (points .entry)) (point three w) → Shows (now (left .entry)) α → Shows (now (right .entry)) β → Row (length (now (points .entry))) (until three w α β lower upper) (now (row .exit))) ⌝ }
+    requires { ⌜ (length (now points) ≤ most-minutes)
+        × (length (now left) ≡ length (now points)) × (length (now right) ≡ length (now points))
+        × (lower ≤ most-bound) × (upper ≤ most-bound) × (length (now ranks) ≡ most-minutes) × (length (now row) ≡ most-minutes) ⌝ }
+    ensures { λ _. ⌜ (length (now (ranks .exit)) ≡ most-minutes) × (length (now (row .exit)) ≡ most-minutes)
+        × ((w : World Truth) (α β : ℕ → Truth) → Shows (now (points .entry)) (point three w)
+        → Shows (now (left .entry)) α → Shows (now (right .entry)) β
+        → Row (length (now (points .entry))) (until three w α β lower upper) (now (row .exit))) ⌝ }
 {
-    rank_begins(points, right, ranks);
-    rank_breaks(points, left, row);
+    rank_row(points, right, false, ranks);
+    rank_row(points, left, true, row);
     let mut t = points.len();
     let mut begins = Nearest {
         sure: FAR,
@@ -228,13 +217,14 @@ pub fn until_row(
 
 // ---- the other rows
 
-pub fn true_row(minutes: usize, row: &mut [u8; 1024])
-    requires { ⌜ (minutes ≤ 1024) × (length (now row) ≡ 1024) ⌝ }
-    ensures { λ _. ⌜ (length (now (row .exit)) ≡ 1024) × Row minutes (λ t. true3) (now (row .exit)) ⌝ }
+// The row of true.
+pub fn true_row(minutes: usize, row: &mut [u8; MOST_MINUTES])
+    requires { ⌜ (minutes ≤ most-minutes) × (length (now row) ≡ most-minutes) ⌝ }
+    ensures { λ _. ⌜ (length (now (row .exit)) ≡ most-minutes) × Row minutes (λ t. true3) (now (row .exit)) ⌝ }
 {
     let mut t: usize = 0;
     while t < minutes {
-        row[t] = 1;
+        row[t] = TRUE;
         t += 1;
     }
 }
@@ -242,21 +232,25 @@ pub fn true_row(minutes: usize, row: &mut [u8; 1024])
 // "A mark is its fact, else unknown": from the minute's two words, which propositions are known and their values.
 fn fact_code(known: u32, values: u32, proposition: u8) -> u8
     requires { ⌜ proposition < 32 ⌝ }
-    ensures { λ r. ⌜ ((k : Knowledge) (t : ℕ) → known ≡ getD (k .facts) (2 * t) 0 → values ≡ getD (k .facts) (2 * t + 1) 0 → r ≡ codeOf (fact k proposition t)) ⌝ }
+    ensures { λ r. ⌜ ((k : Knowledge) (t : ℕ) → known ≡ getD (k .facts) (2 * t) 0 → values ≡ getD (k .facts) (2 * t + 1) 0
+        → r ≡ codeOf (fact k proposition t)) ⌝ }
 {
     let place = proposition as u32;
     if (known >> place) % 2 == 0 {
-        return 0;
+        return UNKNOWN;
     }
     if (values >> place) % 2 == 0 {
-        return 2;
+        return FALSE;
     }
-    1
+    TRUE
 }
 
-pub fn proposition_row(facts: &[u32], proposition: u8, minutes: usize, row: &mut [u8; 1024])
-    requires { ⌜ (minutes ≤ 1024) × (length (now facts) ≡ 2 * minutes) × (proposition < 32) × (length (now row) ≡ 1024) ⌝ }
-    ensures { λ _. ⌜ (length (now (row .exit)) ≡ 1024) × ((k : Knowledge) → k .facts ≡ now (facts .entry) → Row minutes (fact k proposition) (now (row .exit))) ⌝ }
+// The row of a proposition.
+pub fn proposition_row(facts: &[u32], proposition: u8, minutes: usize, row: &mut [u8; MOST_MINUTES])
+    requires { ⌜ (minutes ≤ most-minutes) × (length (now facts) ≡ 2 * minutes) × (proposition < 32)
+        × (length (now row) ≡ most-minutes) ⌝ }
+    ensures { λ _. ⌜ (length (now (row .exit)) ≡ most-minutes)
+        × ((k : Knowledge) → k .facts ≡ now (facts .entry) → Row minutes (fact k proposition) (now (row .exit))) ⌝ }
 {
     let mut t: usize = 0;
     while t < minutes {
@@ -266,9 +260,12 @@ pub fn proposition_row(facts: &[u32], proposition: u8, minutes: usize, row: &mut
     }
 }
 
-pub fn not_row(operand: &[u8], row: &mut [u8; 1024])
-    requires { ⌜ (length (now operand) ≤ 1024) × (length (now row) ≡ 1024) ⌝ }
-    ensures { λ _. ⌜ (length (now (row .exit)) ≡ 1024) × ((f : ℕ → Truth) → Shows (now (operand .entry)) f → Row (length (now (operand .entry))) (λ t. not3 (f t)) (now (row .exit))) ⌝ }
+// The row of `not operand`.
+pub fn not_row(operand: &[u8], row: &mut [u8; MOST_MINUTES])
+    requires { ⌜ (length (now operand) ≤ most-minutes) × (length (now row) ≡ most-minutes) ⌝ }
+    ensures { λ _. ⌜ (length (now (row .exit)) ≡ most-minutes)
+        × ((f : ℕ → Truth) → Shows (now (operand .entry)) f
+        → Row (length (now (operand .entry))) (λ t. not3 (f t)) (now (row .exit))) ⌝ }
 {
     let mut t: usize = 0;
     while t < operand.len() {
@@ -277,9 +274,12 @@ pub fn not_row(operand: &[u8], row: &mut [u8; 1024])
     }
 }
 
-pub fn or_row(left: &[u8], right: &[u8], row: &mut [u8; 1024])
-    requires { ⌜ (length (now left) ≤ 1024) × (length (now right) ≡ length (now left)) × (length (now row) ≡ 1024) ⌝ }
-    ensures { λ _. ⌜ (length (now (row .exit)) ≡ 1024) × ((f g : ℕ → Truth) → Shows (now (left .entry)) f → Shows (now (right .entry)) g → Row (length (now (left .entry))) (λ t. or3 (f t) (g t)) (now (row .exit))) ⌝ }
+// The row of `left or right`.
+pub fn or_row(left: &[u8], right: &[u8], row: &mut [u8; MOST_MINUTES])
+    requires { ⌜ (length (now left) ≤ most-minutes) × (length (now right) ≡ length (now left)) × (length (now row) ≡ most-minutes) ⌝ }
+    ensures { λ _. ⌜ (length (now (row .exit)) ≡ most-minutes)
+        × ((f g : ℕ → Truth) → Shows (now (left .entry)) f → Shows (now (right .entry)) g
+        → Row (length (now (left .entry))) (λ t. or3 (f t) (g t)) (now (row .exit))) ⌝ }
 {
     let table = kleene::or_table();
     let mut t: usize = 0;
@@ -310,11 +310,15 @@ fn work_row(
     points: &[u8],
     facts: &[u32],
     earlier: &[u8],
-    ranks: &mut [u8; 1024],
-    row: &mut [u8; 1024],
+    ranks: &mut [u8; MOST_MINUTES],
+    row: &mut [u8; MOST_MINUTES],
 )
-    requires { ⌜ Workable sizes formula (now points) (now facts) (now earlier) × (length (now ranks) ≡ 1024) × (length (now row) ≡ 1024) ⌝ }
-    ensures { λ _. ⌜ (length (now (ranks .exit)) ≡ 1024) × (length (now (row .exit)) ≡ 1024) × ((k : Knowledge) (v : ℕ → ℕ → Truth) → k .facts ≡ now (facts .entry) → Points sizes k (now (points .entry)) → Rows (sizes .minutes) (now (earlier .entry)) v → Row (sizes .minutes) (meaning three (world sizes k) v formula) (now (row .exit))) ⌝ }
+    requires { ⌜ Workable sizes formula (now points) (now facts) (now earlier)
+        × (length (now ranks) ≡ most-minutes) × (length (now row) ≡ most-minutes) ⌝ }
+    ensures { λ _. ⌜ (length (now (ranks .exit)) ≡ most-minutes) × (length (now (row .exit)) ≡ most-minutes)
+        × ((k : Knowledge) (v : ℕ → ℕ → Truth) → k .facts ≡ now (facts .entry) → Points sizes k (now (points .entry))
+        → Rows (sizes .minutes) (now (earlier .entry)) v
+        → Row (sizes .minutes) (meaning three (world sizes k) v formula) (now (row .exit))) ⌝ }
 {
     let minutes = sizes.minutes;
     match formula {
@@ -358,9 +362,10 @@ fn work_row(
 }
 
 // Writes a row that was worked over a run of the work sheet.
-fn put_row(run: &mut [u8], row: &[u8; 1024])
-    requires { ⌜ length (now run) ≤ 1024 ⌝ }
-    ensures { λ _. ⌜ Over (λ t. getD (now (row .entry)) t 0) 0 (length (now (run .entry))) (now (run .entry)) (now (run .exit)) ⌝ }
+fn put_row(run: &mut [u8], row: &[u8; MOST_MINUTES])
+    requires { ⌜ length (now run) ≤ most-minutes ⌝ }
+    ensures { λ _. ⌜ Over (λ t. getD (now (row .entry)) t 0) 0 (length (now (run .entry)))
+        (now (run .entry)) (now (run .exit)) ⌝ }
 {
     let mut t: usize = 0;
     while t < run.len() {
@@ -370,15 +375,17 @@ fn put_row(run: &mut [u8], row: &[u8; 1024])
 }
 
 // Works the rows of all subformulas, one after another, from the time points and the facts. The rest of a longer list stays as it was.
-pub fn evaluate(policy: Policy, points: &[u8; 1024], facts: &[u32], valuation: &mut [u8])
-    requires { ⌜ (Proper policy) × (length (now points) ≡ 1024) × (length (now facts) ≡ 2 * policy .sizes .minutes) × (policy .count * policy .sizes .minutes ≤ length (now valuation)) ⌝ }
-    ensures { λ _. ⌜ ((k : Knowledge) → k .facts ≡ now (facts .entry) → Points (policy .sizes) k (now (points .entry)) → now (valuation .exit) ≡ valuation-of policy k ++ drop (policy .count * policy .sizes .minutes) (now (valuation .entry))) ⌝ }
+pub fn evaluate(policy: Policy, points: &[u8; MOST_MINUTES], facts: &[u32], valuation: &mut [u8])
+    requires { ⌜ (Proper policy) × (length (now points) ≡ most-minutes) × (length (now facts) ≡ 2 * policy .sizes .minutes)
+        × (policy .count * policy .sizes .minutes ≤ length (now valuation)) ⌝ }
+    ensures { λ _. ⌜ ((k : Knowledge) → k .facts ≡ now (facts .entry) → Points (policy .sizes) k (now (points .entry))
+        → now (valuation .exit) ≡ valuation-of policy k ++ drop (policy .count * policy .sizes .minutes) (now (valuation .entry))) ⌝ }
 {
     let sizes = policy.sizes;
     let minutes = sizes.minutes;
     let count = policy.count;
-    let mut ranks = [0u8; 1024];
-    let mut row = [0u8; 1024];
+    let mut ranks = [0u8; MOST_MINUTES];
+    let mut row = [0u8; MOST_MINUTES];
     let mut at: usize = 0;
     let mut i: usize = 0;
     while i < count {
@@ -402,18 +409,21 @@ pub fn evaluate(policy: Policy, points: &[u8; 1024], facts: &[u32], valuation: &
 
 // ---- the verdict sheet
 
+// 01: "0 blank, 1 kept, 2 broken"; the other two are the codes of true and false.
+const BLANK: u8 = 0;
+
 // The verdict: the value where the minute is known to be a time point, and blank elsewhere.
 fn verdict_code(point: u8, value: u8) -> u8
     ensures { λ r. ⌜ r ≡ verdict-code point value ⌝ }
 {
-    if point == 1 { value } else { 0 }
+    if point == TRUE { value } else { BLANK }
 }
 
 // How many verdicts one cell holds: a blank is none.
 fn stands(verdict: u8) -> usize
     ensures { λ r. ⌜ r ≡ one-stands verdict ⌝ }
 {
-    if verdict == 0 { 0 } else { 1 }
+    if verdict == BLANK { 0 } else { 1 }
 }
 
 // Writes the verdicts of one rule, whose row is given, and answers how many stand.
@@ -433,9 +443,19 @@ fn verdict_row(points: &[u8], row: &[u8], verdicts: &mut [u8]) -> usize
 }
 
 // Writes the verdicts of all rules, one after another, and answers how many stand. The rest of a longer list stays as it was.
-pub fn conclude(policy: Policy, points: &[u8; 1024], valuation: &[u8], verdicts: &mut [u8]) -> usize
-    requires { ⌜ (Proper policy) × (length (now points) ≡ 1024) × (policy .count * policy .sizes .minutes ≤ length (now valuation)) × (policy .rules * policy .sizes .minutes ≤ length (now verdicts)) ⌝ }
-    ensures { λ r. ⌜ ((k : Knowledge) → Points (policy .sizes) k (now (points .entry)) → take (policy .count * policy .sizes .minutes) (now (valuation .entry)) ≡ valuation-of policy k → (now (verdicts .exit) ≡ verdicts-of policy k ++ drop (policy .rules * policy .sizes .minutes) (now (verdicts .entry))) × (r ≡ standing (verdicts-of policy k))) ⌝ }
+pub fn conclude(
+    policy: Policy,
+    points: &[u8; MOST_MINUTES],
+    valuation: &[u8],
+    verdicts: &mut [u8],
+) -> usize
+    requires { ⌜ (Proper policy) × (length (now points) ≡ most-minutes)
+        × (policy .count * policy .sizes .minutes ≤ length (now valuation))
+        × (policy .rules * policy .sizes .minutes ≤ length (now verdicts)) ⌝ }
+    ensures { λ r. ⌜ ((k : Knowledge) → Points (policy .sizes) k (now (points .entry))
+        → take (policy .count * policy .sizes .minutes) (now (valuation .entry)) ≡ valuation-of policy k
+        → (now (verdicts .exit) ≡ verdicts-of policy k ++ drop (policy .rules * policy .sizes .minutes) (now (verdicts .entry)))
+        × (r ≡ standing (verdicts-of policy k))) ⌝ }
 {
     let sizes = policy.sizes;
     let minutes = sizes.minutes;

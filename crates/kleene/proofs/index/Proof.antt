@@ -1,9 +1,8 @@
+-- `kleene::index` meets its contract: a code above 2 reads as unknown, as 0 does. Assumes nothing.
 use Rattle.kleene.proofs.Table.{above}
 use borrow.Author.Needs.{needs}
 use Rattle.kleene.proofs.index.Statement.{statement}
 use Rattle.kleene.proofs.index.Tie as tie
-use Rattle.kleene.proofs.index.Reads as reads
-use Rattle.kleene.proofs.index.Lts as lts
 
 returns : tie.Need-returns
 returns c = search needs

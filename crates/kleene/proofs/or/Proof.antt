@@ -1,13 +1,10 @@
-use mathlib.Core.List.{List, [], _∷_}
-use mathlib.Core.Path.{ap₂, _∙_}
+-- `kleene::or` meets its contract, by the table's rule at the two codes as indexes. Assumes nothing.
+use mathlib.Core.Path.{refl, ap₂, _∙_}
 use Rattle.kleene.specs.Truth.{Truth, codeOf, or3}
-use Rattle.kleene.proofs.Table.{or-rule}
+use Rattle.kleene.proofs.Table.{or-codes, or-rule}
 use borrow.Author.Needs.{needs}
 use Rattle.kleene.proofs.or.Statement.{statement}
 use Rattle.kleene.proofs.or.Tie as tie
-use Rattle.kleene.proofs.or.Reads as reads
-use Rattle.kleene.proofs.or.Lts as lts
-use Rattle.kleene.proofs.index.Reads as index-reads
 
 index-requires : tie.Need-index-requires
 index-requires c κs = search needs
@@ -28,7 +25,8 @@ returns : tie.Need-returns
 returns c =
     let i = c .before .before .index in
     let j = c .before .index2 in
-    or-rule ((0 ∷ 1 ∷ 0 ∷ []) ∷ (1 ∷ 1 ∷ 1 ∷ []) ∷ (0 ∷ 1 ∷ 2 ∷ []) ∷ []) tt (i .result) (j .result) (i .ensures .0) (j .ensures .0) ∙ ap₂ (λ (v w : Truth). codeOf (or3 v w)) (i .ensures .1) (j .ensures .1)
+    or-rule or-codes refl (i .result) (j .result) (i .ensures .0) (j .ensures .0)
+    ∙ ap₂ (λ (v w : Truth). codeOf (or3 v w)) (i .ensures .1) (j .ensures .1)
 
 pub or-spec : {M : Type 1} → statement M
 or-spec =

@@ -1,24 +1,19 @@
 -- `valuation::conclude` meets its contract. The invariant of its loop: the verdicts of the rules among the first i lines are written and counted.
 -- Assumes nothing.
-use mathlib.Core.Path.{_≡_, refl, sym, ap, subst, _∙_}
+use mathlib.Core.Path.{_≡_, sym, ap, _∙_}
 use mathlib.Core.Logic.{⊎-elim}
-use mathlib.Core.List.{List, _++_}
-use Prim.Native.Nat.{ℕ, _+_, _-_, _*_, _≤_, _<_}
+use mathlib.Core.List.{_++_}
+use Prim.Native.Nat.{ℕ, _+_, _-_, _*_, _≤_}
 use native.Mathlib.Omega.{arith}
 use borrow.Author.Needs.{needs}
 use denote.Ref.{now}
-use lib.ListN.{length, getD, take, drop, length-take, length-drop}
-use lib.Seq.{length-take-le}
+use lib.ListN.{length, take, drop, length-take, length-drop}
 use Rattle.rows.specs.Grid.{next-row}
-use Rattle.knowledge.specs.Knowledge.{Knowledge}
 use Rattle.valuation.proofs.Work.{given-back}
 use Rattle.valuation.proofs.Standing.{standing-le}
 use Rattle.valuation.proofs.Concluding.{Concluded, none-yet, no-rule, rule-fits, renamed, one-rule, all-lines}
 use Rattle.valuation.proofs.conclude.Statement.{statement}
 use Rattle.valuation.proofs.conclude.Tie as tie
-use Rattle.valuation.proofs.conclude.Reads as reads
-use Rattle.valuation.proofs.conclude.Lts as lts
-use Rattle.valuation.proofs.verdict_row.Reads as verdict-row-reads
 
 abbrev Inv-loop : tie.InvT-loop
 Inv-loop points valuation verdicts₀ policy minutes count total₀ at₀ i₀ verdicts total at i =

@@ -7,7 +7,7 @@ use native.Mathlib.Numerals.{add-one}
 use native.Mathlib.Omega.{arith}
 use borrow.Author.Needs.{needs}
 use denote.Ref.{now}
-use lib.ListN.{length, getD, take, drop, length-take, length-drop, length-replicate}
+use lib.ListN.{length, take, drop, length-take, length-drop, length-replicate}
 use lib.Seq.{length-take-le}
 use Rattle.rows.specs.Over.{Over}
 use Rattle.rows.specs.Laws.{untouched}
@@ -19,10 +19,6 @@ use Rattle.valuation.specs.Rows.{Points}
 use Rattle.valuation.proofs.Work.{cell, rows-show, workable, next, given-back, back-length}
 use Rattle.valuation.proofs.evaluate.Statement.{statement}
 use Rattle.valuation.proofs.evaluate.Tie as tie
-use Rattle.valuation.proofs.evaluate.Reads as reads
-use Rattle.valuation.proofs.evaluate.Lts as lts
-use Rattle.valuation.proofs.put_row.Reads as put-row-reads
-use Rattle.valuation.proofs.work_row.Reads as work-row-reads
 
 abbrev Inv-loop : tie.InvT-loop
 Inv-loop points facts valuation₀ policy sizes minutes count ranks₀ row₀ at₀ i₀ valuation ranks row at i =

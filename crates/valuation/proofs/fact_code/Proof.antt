@@ -3,8 +3,6 @@ use Rattle.valuation.proofs.Facts.{is-unknown, is-true, is-false}
 use borrow.Author.Needs.{needs}
 use Rattle.valuation.proofs.fact_code.Statement.{statement}
 use Rattle.valuation.proofs.fact_code.Tie as tie
-use Rattle.valuation.proofs.fact_code.Reads as reads
-use Rattle.valuation.proofs.fact_code.Lts as lts
 
 shr-if1 : tie.Need-shr-if1
 shr-if1 c = search needs

@@ -1,26 +1,21 @@
 -- `valuation::not_row` meets its contract. The invariant of its loop: the cells before t are the codes of not. Assumes nothing.
-use mathlib.Core.Path.{_≡_, sym, ap, subst, _∙_}
+use mathlib.Core.Path.{ap, _∙_}
 use mathlib.Core.List.{List}
-use Prim.Native.Nat.{ℕ, _+_, _-_, _*_, _≤_}
+use Prim.Native.Nat.{ℕ, _-_, _≤_}
 use native.Mathlib.Omega.{arith}
 use denote.Ref.{now}
 use lib.ListN.{length, getD}
 use Rattle.kleene.specs.Truth.{Truth, codeOf, valueOf, not3}
 use Rattle.rows.specs.Over.{Over}
 use Rattle.rows.specs.Laws.{untouched, one-more}
-use Rattle.valuation.specs.Rows.{Row}
-use Rattle.valuation.proofs.Shown.{filled, read-as}
 use Rattle.valuation.proofs.not_row.Statement.{statement}
 use Rattle.valuation.proofs.not_row.Tie as tie
-use Rattle.valuation.proofs.not_row.Reads as reads
-use Rattle.valuation.proofs.not_row.Lts as lts
-use Rattle.kleene.proofs.not.Reads as not-reads
 
-abbrev of : List ℕ → ℕ → Truth
-of operand s = not3 (valueOf (getD operand s 0))
+abbrev of : List ℕ → ℕ → ℕ
+of operand s = codeOf (not3 (valueOf (getD operand s 0)))
 
 abbrev Inv-loop : tie.InvT-loop
-Inv-loop operand row₀ t₀ row t = (t ≤ length operand) × Over (λ s. codeOf (of operand s)) 0 t row₀ row
+Inv-loop operand row₀ t₀ row t = (t ≤ length operand) × Over (of operand) 0 t row₀ row
 
 abbrev μ-loop : tie.MeasureT-loop
 μ-loop operand row₀ t₀ row t = length operand - t
@@ -28,7 +23,7 @@ abbrev μ-loop : tie.MeasureT-loop
 loop-holds : tie.Need-loop-holds Inv-loop μ-loop
 loop-holds c =
     let x = c .before .args in
-    (omega arith, untouched (λ s. codeOf (of (now (x .operand)) s)) 0 (now (x .row)))
+    (omega arith, untouched (of (now (x .operand))) 0 (now (x .row)))
 
 shared-slice-read-not : tie.Need-shared-slice-read-not Inv-loop μ-loop
 shared-slice-read-not c = omega arith
@@ -51,17 +46,18 @@ loop-again : tie.Need-loop-again Inv-loop μ-loop
 loop-again c =
     let l = c .before .before .before in
     let x = l .before .before .args in
-    let old = l .loop .inv .1 in
-    (omega arith, one-more (λ s. codeOf (of (now (x .operand)) s)) 0 (l .loop .t) (now (x .row)) (l .loop .row) (c .not .result) old (omega arith) (omega (arith, old .long)) (c .not .ensures))
+    let old = l .loop .inv .1 in (
+      omega arith,
+      one-more (of (now (x .operand))) 0 (l .loop .t) (now (x .row)) (l .loop .row) (c .not .result) old
+          (omega arith) (omega (arith, old .long)) (c .not .ensures),
+    )
 
 returns : tie.Need-returns Inv-loop μ-loop
 returns c =
     let l = c .before in
     let s = l .before .before in
-    let m = now (s .args .operand) in
-    let done : l .loop .t ≡ length m = omega arith in
-    let all = subst (λ (n : ℕ). Over (λ s. codeOf (of m s)) 0 n (now (s .args .row)) (l .loop .row)) done (l .loop .inv .1) in
-    (all .long ∙ s .pre .1, λ f P. read-as (length m) (of m) (λ t. not3 (f t)) (l .loop .row) (λ t. ap not3 (P t)) (filled (length m) (of m) (now (s .args .row)) (l .loop .row) all))
+    let all = l .loop .inv .1 in
+    (all .long ∙ s .pre .1, λ f P t h. all .inside t (omega arith) (omega arith) ∙ ap (λ (v : Truth). codeOf (not3 v)) (P t))
 
 pub not-row-spec : {M : Type 1} → statement M
 not-row-spec =

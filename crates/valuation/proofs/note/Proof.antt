@@ -4,8 +4,6 @@ use native.Mathlib.Omega.{arith}
 use borrow.Author.Tests.{le-leb, lt-leb}
 use Rattle.valuation.proofs.note.Statement.{statement}
 use Rattle.valuation.proofs.note.Tie as tie
-use Rattle.valuation.proofs.note.Reads as reads
-use Rattle.valuation.proofs.note.Lts as lts
 
 returns : tie.Need-returns
 returns c = simp (le-leb 2 (c .before .args .rank) (omega arith), le-leb 1 (c .before .args .rank) (omega arith)) (refl, refl)

@@ -1,5 +1,5 @@
 -- `valuation::or_row` meets its contract. The invariant of its loop: the cells before t are the codes of or. Assumes nothing.
-use mathlib.Core.Path.{_≡_, ap₂, subst, _∙_}
+use mathlib.Core.Path.{ap₂, _∙_}
 use mathlib.Core.List.{List}
 use Prim.Native.Nat.{ℕ, _-_, _≤_}
 use native.Mathlib.Omega.{arith}
@@ -8,19 +8,14 @@ use lib.ListN.{length, getD}
 use Rattle.kleene.specs.Truth.{Truth, codeOf, valueOf, or3}
 use Rattle.rows.specs.Over.{Over}
 use Rattle.rows.specs.Laws.{untouched, one-more}
-use Rattle.valuation.proofs.Shown.{filled, read-as}
 use Rattle.valuation.proofs.or_row.Statement.{statement}
 use Rattle.valuation.proofs.or_row.Tie as tie
-use Rattle.valuation.proofs.or_row.Reads as reads
-use Rattle.valuation.proofs.or_row.Lts as lts
-use Rattle.kleene.proofs.index.Reads as index-reads
-use Rattle.kleene.proofs.or_table.Reads as or-table-reads
 
-abbrev of : List ℕ → List ℕ → ℕ → Truth
-of left right s = or3 (valueOf (getD left s 0)) (valueOf (getD right s 0))
+abbrev of : List ℕ → List ℕ → ℕ → ℕ
+of left right s = codeOf (or3 (valueOf (getD left s 0)) (valueOf (getD right s 0)))
 
 abbrev Inv-loop : tie.InvT-loop
-Inv-loop left right row₀ table t₀ row t = (t ≤ length left) × Over (λ s. codeOf (of left right s)) 0 t row₀ row
+Inv-loop left right row₀ table t₀ row t = (t ≤ length left) × Over (of left right) 0 t row₀ row
 
 abbrev μ-loop : tie.MeasureT-loop
 μ-loop left right row₀ table t₀ row t = length left - t
@@ -31,7 +26,7 @@ or-table-requires c κs = tt
 loop-holds : tie.Need-loop-holds Inv-loop μ-loop
 loop-holds c =
     let x = c .before .before .before .args in
-    (omega arith, untouched (λ s. codeOf (of (now (x .left)) (now (x .right)) s)) 0 (now (x .row)))
+    (omega arith, untouched (of (now (x .left)) (now (x .right))) 0 (now (x .row)))
 
 shared-slice-read-index : tie.Need-shared-slice-read-index Inv-loop μ-loop
 shared-slice-read-index c = omega arith
@@ -72,19 +67,20 @@ loop-again c =
     let old = l .loop .inv .1 in
     let i = c .before .before .before .index in
     let j = c .before .index2 in
-    let entry = l .before .or-table .ensures (i .result) (j .result) (i .ensures .0) (j .ensures .0) ∙ ap₂ (λ (v w : Truth). codeOf (or3 v w)) (i .ensures .1) (j .ensures .1) in
-    (omega arith, one-more (λ s. codeOf (of (now (x .left)) (now (x .right)) s)) 0 (l .loop .t) (now (x .row)) (l .loop .row) _ old (omega arith) (omega (arith, old .long)) entry)
+    let entry =
+    l .before .or-table .ensures (i .result) (j .result) (i .ensures .0) (j .ensures .0)
+    ∙ ap₂ (λ (v w : Truth). codeOf (or3 v w)) (i .ensures .1) (j .ensures .1) in (
+      omega arith,
+      one-more (of (now (x .left)) (now (x .right))) 0 (l .loop .t) (now (x .row)) (l .loop .row) _ old
+          (omega arith) (omega (arith, old .long)) entry,
+    )
 
 returns : tie.Need-returns Inv-loop μ-loop
 returns c =
     let l = c .before in
     let s = l .before .before .before .before in
-    let x = s .args in
-    let m = now (x .left) in
-    let n = now (x .right) in
-    let done : l .loop .t ≡ length m = omega arith in
-    let all = subst (λ (i : ℕ). Over (λ s. codeOf (of m n s)) 0 i (now (x .row)) (l .loop .row)) done (l .loop .inv .1) in
-    (all .long ∙ s .pre .2, λ f g P Q. read-as (length m) (of m n) (λ t. or3 (f t) (g t)) (l .loop .row) (λ t. ap₂ or3 (P t) (Q t)) (filled (length m) (of m n) (now (x .row)) (l .loop .row) all))
+    let all = l .loop .inv .1 in
+    (all .long ∙ s .pre .2, λ f g P Q t h. all .inside t (omega arith) (omega arith) ∙ ap₂ (λ (v w : Truth). codeOf (or3 v w)) (P t) (Q t))
 
 pub or-row-spec : {M : Type 1} → statement M
 or-row-spec =

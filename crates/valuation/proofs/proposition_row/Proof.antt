@@ -1,5 +1,5 @@
 -- `valuation::proposition_row` meets its contract. The invariant of its loop: the cells before t are the codes of the facts. Assumes nothing.
-use mathlib.Core.Path.{_≡_, refl, sym, ap, subst, _∙_}
+use mathlib.Core.Path.{_≡_, refl, sym, ap, _∙_}
 use mathlib.Core.List.{List}
 use Prim.Native.Nat.{ℕ, _+_, _-_, _*_, _≤_}
 use native.Mathlib.Omega.{arith}
@@ -9,13 +9,8 @@ use Rattle.kleene.specs.Truth.{codeOf}
 use Rattle.rows.specs.Over.{Over}
 use Rattle.rows.specs.Laws.{untouched, one-more}
 use Rattle.knowledge.specs.Knowledge.{Knowledge, fact}
-use Rattle.valuation.specs.Rows.{Row}
-use Rattle.valuation.proofs.Shown.{filled}
 use Rattle.valuation.proofs.proposition_row.Statement.{statement}
 use Rattle.valuation.proofs.proposition_row.Tie as tie
-use Rattle.valuation.proofs.proposition_row.Reads as reads
-use Rattle.valuation.proofs.proposition_row.Lts as lts
-use Rattle.valuation.proofs.fact_code.Reads as fact-code-reads
 
 abbrev Inv-loop : tie.InvT-loop
 Inv-loop facts proposition minutes row₀ t₀ row t =
@@ -77,9 +72,7 @@ returns : tie.Need-returns Inv-loop μ-loop
 returns c =
     let l = c .before in
     let s = l .before .before in
-    let x = s .args in
-    let done : l .loop .t ≡ x .minutes = omega arith in
-    (l .loop .inv .1 ∙ s .pre .3, λ k e. subst (λ (n : ℕ). Row n (fact k (x .proposition)) (l .loop .row)) done (filled (l .loop .t) (fact k (x .proposition)) (now (x .row)) (l .loop .row) (l .loop .inv .2 k e)))
+    (l .loop .inv .1 ∙ s .pre .3, λ k e t h. l .loop .inv .2 k e .inside t (omega arith) (omega arith))
 
 pub proposition-row-spec : {M : Type 1} → statement M
 proposition-row-spec =

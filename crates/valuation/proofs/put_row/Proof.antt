@@ -1,6 +1,6 @@
 -- `valuation::put_row` meets its contract. The invariant of its loop: the cells before t are the row's, the others as they were. Assumes nothing.
 use mathlib.Core.Path.{_≡_, refl, subst}
-use Prim.Native.Nat.{ℕ, _+_, _-_, _≤_}
+use Prim.Native.Nat.{ℕ, _-_, _≤_}
 use native.Mathlib.Omega.{arith}
 use denote.Ref.{now}
 use lib.ListN.{length, getD}
@@ -9,8 +9,6 @@ use Rattle.rows.specs.Over.{Over}
 use Rattle.rows.specs.Laws.{untouched, one-more}
 use Rattle.valuation.proofs.put_row.Statement.{statement}
 use Rattle.valuation.proofs.put_row.Tie as tie
-use Rattle.valuation.proofs.put_row.Reads as reads
-use Rattle.valuation.proofs.put_row.Lts as lts
 
 abbrev Inv-loop : tie.InvT-loop
 Inv-loop run₀ row t₀ run t = (t ≤ length run₀) × (length run ≡ length run₀) × Over (λ s. getD row s 0) 0 t run₀ run

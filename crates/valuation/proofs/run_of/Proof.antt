@@ -1,12 +1,10 @@
 -- `valuation::run_of` meets its contract: the part from i * minutes on is the row. Assumes nothing.
 use mathlib.Core.Path.{_≡_, refl}
-use Prim.Native.Nat.{ℕ, _+_, _-_, _*_}
+use Prim.Native.Nat.{_+_, _-_, _*_}
 use native.Mathlib.Omega.{arith}
 use borrow.Author.Needs.{needs}
 use Rattle.valuation.proofs.run_of.Statement.{statement}
 use Rattle.valuation.proofs.run_of.Tie as tie
-use Rattle.valuation.proofs.run_of.Reads as reads
-use Rattle.valuation.proofs.run_of.Lts as lts
 
 mul-at : tie.Need-mul-at
 mul-at c = search needs

@@ -1,17 +1,13 @@
 -- `valuation::since_begin` meets its contract: one step of the last begins; before the interval is reached nothing changes.
 -- Assumes nothing.
-use mathlib.Core.Path.{subst}
-use Prim.Native.Nat.{ℕ, _-_}
+use mathlib.Core.Path.{refl, subst}
+use Prim.Native.Nat.{ℕ, _+_, _-_}
 use native.Mathlib.Omega.{arith}
-use denote.Ref.{now}
 use Rattle.valuation.specs.Indexes.{Lasts}
 use Rattle.valuation.proofs.Steps.{lasts-step}
 use borrow.Author.Needs.{needs}
 use Rattle.valuation.proofs.since_begin.Statement.{statement}
 use Rattle.valuation.proofs.since_begin.Tie as tie
-use Rattle.valuation.proofs.since_begin.Reads as reads
-use Rattle.valuation.proofs.since_begin.Lts as lts
-use Rattle.valuation.proofs.note.Reads as note-reads
 
 returns : tie.Need-returns
 returns c m f b R L =
@@ -32,7 +28,7 @@ returns-2 c m f b R L =
     let x = c .before .before .before .args in
     let j = x .t - x .lower in
     subst (λ (n : ℕ). Lasts f n (c .note .result)) (omega arith)
-    (lasts-step j _ (x .begins) (c .note .result) f (R j (omega arith)) (c .note .ensures) L)
+    (lasts-step j (j + 1) _ f refl (R j (omega arith)) (x .begins) (c .note .result) (c .note .ensures) L)
 
 pub since-begin-spec : {M : Type 1} → statement M
 since-begin-spec =

@@ -1,7 +1,7 @@
 -- `valuation::since_row` meets its contract. The invariant of its loop: the cells before t are the since's, the breaks before t and the begins
 -- before t - lower are noted. The measure is what is left of the minutes. Assumes nothing.
-use mathlib.Core.Path.{_≡_, subst, _∙_}
-use Prim.Native.Nat.{ℕ, _-_, _≤_, _<_}
+use mathlib.Core.Path.{_≡_, refl, _∙_}
+use Prim.Native.Nat.{ℕ, _+_, _-_, _≤_, _<_}
 use native.Mathlib.Omega.{arith}
 use denote.Ref.{now}
 use lib.ListN.{length, length-set}
@@ -10,20 +10,11 @@ use Rattle.rows.specs.Over.{Over}
 use Rattle.rows.specs.Laws.{untouched, one-more}
 use Rattle.mtl.specs.Algebra.{three}
 use Rattle.mtl.specs.Reading.{World, point, since}
-use Rattle.valuation.specs.Rows.{Shows, Row}
+use Rattle.valuation.specs.Rows.{Shows}
 use Rattle.valuation.specs.Indexes.{begun, broken, Lasts}
-use Rattle.valuation.proofs.Shown.{filled}
-use Rattle.valuation.proofs.Steps.{no-last, lasts-step}
+use Rattle.valuation.proofs.Steps.{lasts-none, lasts-step}
 use Rattle.valuation.proofs.since_row.Statement.{statement}
 use Rattle.valuation.proofs.since_row.Tie as tie
-use Rattle.valuation.proofs.since_row.Reads as reads
-use Rattle.valuation.proofs.since_row.Lts as lts
-use Rattle.valuation.proofs.rank_begins.Reads as rank-begins-reads
-use Rattle.valuation.proofs.rank_breaks.Reads as rank-breaks-reads
-use Rattle.valuation.proofs.next_start.Reads as next-start-reads
-use Rattle.valuation.proofs.note.Reads as note-reads
-use Rattle.valuation.proofs.since_begin.Reads as since-begin-reads
-use Rattle.valuation.proofs.since_value.Reads as since-value-reads
 
 abbrev Inv-loop : tie.InvT-loop
 Inv-loop points left right lower upper ranks row₀ begins₀ breaks₀ start₀ t₀ row begins breaks start t =
@@ -35,24 +26,24 @@ Inv-loop points left right lower upper ranks row₀ begins₀ breaks₀ start₀
 abbrev μ-loop : tie.MeasureT-loop
 μ-loop points left right lower upper ranks row₀ begins₀ breaks₀ start₀ t₀ row begins breaks start t = length points - t
 
-rank-begins-requires : tie.Need-rank-begins-requires Inv-loop μ-loop
-rank-begins-requires c κs = (omega arith, omega arith, omega arith)
+rank-row-requires : tie.Need-rank-row-requires Inv-loop μ-loop
+rank-row-requires c κs = (omega arith, omega arith, omega arith)
 
-rank-breaks-requires : tie.Need-rank-breaks-requires Inv-loop μ-loop
-rank-breaks-requires c κs = (omega arith, omega arith, omega arith)
+rank-row-requires-2 : tie.Need-rank-row-requires-2 Inv-loop μ-loop
+rank-row-requires-2 c κs = (omega arith, omega arith, omega arith)
 
 loop-holds : tie.Need-loop-holds Inv-loop μ-loop
 loop-holds c =
     let x = c .before .before .before .before .before .before .before .args in (
       omega arith,
-      c .rank-breaks .ensures .0,
+      c .rank-row2 .ensures .0,
       omega arith,
       λ w α β P Q R.
-          (no-last (begun (point three w) β) (0 - x .lower) (omega arith), no-last (broken (point three w) α) 0 (omega arith), untouched (λ s. codeOf (since three w α β (x .lower) (x .upper) s)) 0 _),
+          (lasts-none (begun (point three w) β) (0 - x .lower) (omega arith), lasts-none (broken (point three w) α) 0 (omega arith), untouched (λ s. codeOf (since three w α β (x .lower) (x .upper) s)) 0 _),
     )
 
 since-begin-requires : tie.Need-since-begin-requires Inv-loop μ-loop
-since-begin-requires c κs = (omega arith, c .before .before .before .before .before .rank-begins .ensures .0)
+since-begin-requires c κs = (omega arith, c .before .before .before .before .before .rank-row .ensures .0)
 
 add-note : tie.Need-add-note Inv-loop μ-loop
 add-note c = omega arith
@@ -91,9 +82,9 @@ loop-again c =
       c .next-start .ensures,
       λ w α β P Q R.
           let old = l .loop .inv .3 w α β P Q R in
-          let begins = c .before .before .before .before .since-begin .ensures m (begun (point three w) β) (omega (arith, on)) (l .before .before .before .rank-begins .ensures .1 (point three w) β P R) (old .0) in
-          let break = old .2 .above t (omega (arith, on)) ∙ l .before .rank-breaks .ensures .1 (point three w) α P Q t (omega (arith, on)) in
-          let ends = lasts-step t _ (l .loop .breaks) (c .before .before .note .result) (broken (point three w) α) break (c .before .before .note .ensures) (old .1) in (
+          let begins = c .before .before .before .before .since-begin .ensures m (begun (point three w) β) (omega (arith, on)) (l .before .before .before .rank-row .ensures .1 (point three w) β P R) (old .0) in
+          let break = old .2 .above t (omega (arith, on)) ∙ l .before .rank-row2 .ensures .1 (point three w) α P Q t (omega (arith, on)) in
+          let ends = lasts-step t (t + 1) _ (broken (point three w) α) refl break (l .loop .breaks) (c .before .before .note .result) (c .before .before .note .ensures) (old .1) in (
             begins,
             ends,
             one-more (λ s. codeOf (since three w α β (x .lower) (x .upper) s)) 0 t _ (l .loop .row) (c .before .since-value .result) (old .2) (omega arith) (omega (arith, on, s .pre .0, l .loop .inv .1)) (c .before .since-value .ensures w α β (x .lower) (x .upper) t (l .loop .inv .2) begins ends),
@@ -105,11 +96,9 @@ returns c =
     let l = c .before in
     let x = l .before .before .before .before .before .before .before .before .args in
     let done : l .loop .t ≡ length (now (x .points)) = omega arith in (
-      l .before .before .before .rank-begins .ensures .0,
+      l .before .before .before .rank-row .ensures .0,
       l .loop .inv .1,
-      λ w α β P Q R.
-          subst (λ (m : ℕ). Row m (since three w α β (x .lower) (x .upper)) (l .loop .row)) done
-          (filled (l .loop .t) (since three w α β (x .lower) (x .upper)) _ (l .loop .row) (l .loop .inv .3 w α β P Q R .2)),
+      λ w α β P Q R i h. l .loop .inv .3 w α β P Q R .2 .inside i (omega arith) (omega (arith, done)),
     )
 
 pub since-row-spec : {M : Type 1} → statement M
@@ -118,8 +107,8 @@ since-row-spec =
     (tie.spec
     Inv-loop
     μ-loop
-    rank-begins-requires
-    rank-breaks-requires
+    rank-row-requires
+    rank-row-requires-2
     loop-holds
     since-begin-requires
     add-note

@@ -3,8 +3,6 @@ use mathlib.Core.Path.{refl}
 use borrow.Author.Tests.{eq-eqb, ne-eqb}
 use Rattle.valuation.proofs.stands.Statement.{statement}
 use Rattle.valuation.proofs.stands.Tie as tie
-use Rattle.valuation.proofs.stands.Reads as reads
-use Rattle.valuation.proofs.stands.Lts as lts
 
 returns : tie.Need-returns
 returns c = rw (eq-eqb (c .before .args .verdict) 0 (c .if1 .taken)) refl

@@ -1,12 +1,10 @@
 -- `valuation::true_row` meets its contract. The invariant of its loop: the cells before t are the code of true. Assumes nothing.
-use mathlib.Core.Path.{_≡_, refl, subst, _∙_}
-use Prim.Native.Nat.{ℕ, _-_, _≤_}
+use mathlib.Core.Path.{refl, _∙_}
+use Prim.Native.Nat.{_-_, _≤_}
 use native.Mathlib.Omega.{arith}
 use denote.Ref.{now}
-use Rattle.kleene.specs.Truth.{true3}
 use Rattle.rows.specs.Over.{Over}
 use Rattle.rows.specs.Laws.{untouched, one-more}
-use Rattle.valuation.proofs.Shown.{filled}
 use Rattle.valuation.proofs.true_row.Statement.{statement}
 use Rattle.valuation.proofs.true_row.Tie as tie
 
@@ -39,10 +37,8 @@ returns : tie.Need-returns Inv-loop μ-loop
 returns c =
     let l = c .before in
     let s = l .before in
-    let x = s .args in
-    let done : l .loop .t ≡ x .minutes = omega arith in
-    let all = subst (λ (n : ℕ). Over (λ _. 1) 0 n (now (x .row)) (l .loop .row)) done (l .loop .inv .1) in
-    (all .long ∙ s .pre .1, filled (x .minutes) (λ _. true3) (now (x .row)) (l .loop .row) all)
+    let all = l .loop .inv .1 in
+    (all .long ∙ s .pre .1, λ t h. all .inside t (omega arith) (omega arith))
 
 pub true-row-spec : {M : Type 1} → statement M
 true-row-spec =

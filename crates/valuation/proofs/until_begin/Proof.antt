@@ -4,8 +4,6 @@ use native.Mathlib.Omega.{arith}
 use borrow.Author.Needs.{needs}
 use Rattle.valuation.proofs.until_begin.Statement.{statement}
 use Rattle.valuation.proofs.until_begin.Tie as tie
-use Rattle.valuation.proofs.until_begin.Reads as reads
-use Rattle.valuation.proofs.until_begin.Lts as lts
 
 element-copy-out-result : tie.Need-element-copy-out-result
 element-copy-out-result c = search needs

@@ -1,6 +1,7 @@
 -- `valuation::until_row` meets its contract. The invariant of its loop: the cells from t on are the until's, the breaks from t on and the begins
 -- from t + lower on are noted. The measure is t. Assumes nothing.
 use mathlib.Core.Path.{_≡_, refl, subst, _∙_}
+use mathlib.Core.Bool.{true, false}
 use Prim.Native.Nat.{ℕ, _+_, _-_, _≤_, _<_}
 use native.Mathlib.Omega.{arith}
 use denote.Ref.{now}
@@ -10,19 +11,12 @@ use Rattle.rows.specs.Over.{Over}
 use Rattle.rows.specs.Laws.{untouched, one-before}
 use Rattle.mtl.specs.Algebra.{three}
 use Rattle.mtl.specs.Reading.{World, point, until}
-use Rattle.valuation.specs.Rows.{Shows, Row}
+use Rattle.valuation.specs.Rows.{Shows}
 use Rattle.valuation.specs.Indexes.{begun, broken, Firsts}
-use Rattle.valuation.proofs.Shown.{begun-past, broken-past}
-use Rattle.valuation.proofs.Steps.{no-first, firsts-step}
+use Rattle.valuation.proofs.Shown.{ranked-past}
+use Rattle.valuation.proofs.Steps.{firsts-unknown, firsts-step}
 use Rattle.valuation.proofs.until_row.Statement.{statement}
 use Rattle.valuation.proofs.until_row.Tie as tie
-use Rattle.valuation.proofs.until_row.Reads as reads
-use Rattle.valuation.proofs.until_row.Lts as lts
-use Rattle.valuation.proofs.rank_begins.Reads as rank-begins-reads
-use Rattle.valuation.proofs.rank_breaks.Reads as rank-breaks-reads
-use Rattle.valuation.proofs.note.Reads as note-reads
-use Rattle.valuation.proofs.until_begin.Reads as until-begin-reads
-use Rattle.valuation.proofs.until_value.Reads as until-value-reads
 
 abbrev Inv-loop : tie.InvT-loop
 Inv-loop points left right lower upper ranks row₀ t₀ begins₀ breaks₀ row t begins breaks =
@@ -34,11 +28,11 @@ Inv-loop points left right lower upper ranks row₀ t₀ begins₀ breaks₀ row
 abbrev μ-loop : tie.MeasureT-loop
 μ-loop points left right lower upper ranks row₀ t₀ begins₀ breaks₀ row t begins breaks = t
 
-rank-begins-requires : tie.Need-rank-begins-requires Inv-loop μ-loop
-rank-begins-requires c κs = (omega arith, omega arith, omega arith)
+rank-row-requires : tie.Need-rank-row-requires Inv-loop μ-loop
+rank-row-requires c κs = (omega arith, omega arith, omega arith)
 
-rank-breaks-requires : tie.Need-rank-breaks-requires Inv-loop μ-loop
-rank-breaks-requires c κs = (omega arith, omega arith, omega arith)
+rank-row-requires-2 : tie.Need-rank-row-requires-2 Inv-loop μ-loop
+rank-row-requires-2 c κs = (omega arith, omega arith, omega arith)
 
 add-t15 : tie.Need-add-t15 Inv-loop μ-loop
 add-t15 c = omega arith
@@ -50,10 +44,10 @@ loop-holds c =
     let points = now (x .points) in
     let m = length points in (
       omega arith,
-      c .rank-breaks .ensures .0,
+      c .rank-row2 .ensures .0,
       λ w α β P Q R. (
-        no-first (begun (point three w) β) (m + x .lower) (omega arith) (λ i l. begun-past points (now (x .right)) (point three w) β P R i (omega arith) (omega (arith, s .pre .2))),
-        no-first (broken (point three w) α) m (omega arith) (λ i l. broken-past points (now (x .left)) (point three w) α P Q i (omega arith) (omega (arith, s .pre .1))),
+        firsts-unknown (begun (point three w) β) (m + x .lower) (λ i l. ranked-past false points (now (x .right)) (point three w) β P R i (omega arith) (omega (arith, s .pre .2))),
+        firsts-unknown (broken (point three w) α) m (λ i l. ranked-past true points (now (x .left)) (point three w) α P Q i (omega arith) (omega (arith, s .pre .1))),
         untouched (λ s. codeOf (until three w α β (x .lower) (x .upper) s)) m _,
       ),
     )
@@ -65,7 +59,7 @@ add-j : tie.Need-add-j Inv-loop μ-loop
 add-j c = omega arith
 
 until-begin-requires : tie.Need-until-begin-requires Inv-loop μ-loop
-until-begin-requires c κs = (omega arith, c .before .before .before .before .before .rank-begins .ensures .0)
+until-begin-requires c κs = (omega arith, c .before .before .before .before .before .rank-row .ensures .0)
 
 note-requires : tie.Need-note-requires Inv-loop μ-loop
 note-requires c κs = omega arith
@@ -103,11 +97,14 @@ loop-again c =
       λ w α β P Q R.
           let old = l .loop .inv .2 w α β P Q R in
           let b = c .before .before .before in
-          let ranks = l .before .before .before .rank-begins .ensures .1 (point three w) β P R in
-          let begin = b .before .until-begin .ensures (begun (point three w) β) ranks (λ past. begun-past points (now (x .right)) (point three w) β P R (t - 1 + x .lower) past (omega (arith, past, s .pre .2))) in
-          let begins = firsts-step (t - 1 + x .lower) (b .before .until-begin .result) (l .loop .begins) (b .note .result) (begun (point three w) β) begin (b .note .ensures) (subst (λ (n : ℕ). Firsts (begun (point three w) β) n (l .loop .begins)) there (old .0)) in
-          let break = old .2 .below (t - 1) (omega arith) ∙ l .before .rank-breaks .ensures .1 (point three w) α P Q (t - 1) (omega arith) in
-          let ends = firsts-step (t - 1) _ (l .loop .breaks) (c .before .note2 .result) (broken (point three w) α) break (c .before .note2 .ensures) (subst (λ (n : ℕ). Firsts (broken (point three w) α) n (l .loop .breaks)) more (old .1)) in (
+          let ranks = l .before .before .before .rank-row .ensures .1 (point three w) β P R in
+          let begin =
+          b .before .until-begin .ensures (begun (point three w) β) ranks (λ past. ranked-past false points (now (x .right)) (point three w) β P R (t - 1 + x .lower) past (omega (arith, past, s .pre .2))) in
+          let begins =
+          firsts-step (t - 1 + x .lower) (b .before .until-begin .result) (begun (point three w) β) (omega arith) begin (l .loop .begins) (b .note .result) (b .note .ensures) (subst (λ (n : ℕ). Firsts (begun (point three w) β) n (l .loop .begins)) there (old .0)) in
+          let break = old .2 .below (t - 1) (omega arith) ∙ l .before .rank-row2 .ensures .1 (point three w) α P Q (t - 1) (omega arith) in
+          let ends =
+          firsts-step (t - 1) _ (broken (point three w) α) (omega arith) break (l .loop .breaks) (c .before .note2 .result) (c .before .note2 .ensures) (subst (λ (n : ℕ). Firsts (broken (point three w) α) n (l .loop .breaks)) more (old .1)) in (
             begins,
             ends,
             one-before (λ s. codeOf (until three w α β (x .lower) (x .upper) s)) t (length points) _ (l .loop .row) (c .until-value .result) (old .2) (t - 1) (omega arith) (omega arith) (omega arith) (c .until-value .ensures w α β (x .lower) (x .upper) (t - 1) refl (omega arith) begins ends),
@@ -119,7 +116,7 @@ returns c =
     let l = c .before in
     let x = l .before .before .before .before .before .before .before .before .args in
     let done : l .loop .t ≡ 0 = omega arith in (
-      l .before .before .before .rank-begins .ensures .0,
+      l .before .before .before .rank-row .ensures .0,
       l .loop .inv .1,
       λ w α β P Q R i h. l .loop .inv .2 w α β P Q R .2 .inside i (omega (arith, done)) h,
     )
@@ -130,8 +127,8 @@ until-row-spec =
     (tie.spec
     Inv-loop
     μ-loop
-    rank-begins-requires
-    rank-breaks-requires
+    rank-row-requires
+    rank-row-requires-2
     add-t15
     loop-holds
     sub-t

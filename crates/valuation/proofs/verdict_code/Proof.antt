@@ -3,8 +3,6 @@ use mathlib.Core.Path.{refl}
 use borrow.Author.Tests.{eq-eqb, ne-eqb}
 use Rattle.valuation.proofs.verdict_code.Statement.{statement}
 use Rattle.valuation.proofs.verdict_code.Tie as tie
-use Rattle.valuation.proofs.verdict_code.Reads as reads
-use Rattle.valuation.proofs.verdict_code.Lts as lts
 
 returns : tie.Need-returns
 returns c = rw (eq-eqb (c .before .args .point) 1 (c .if1 .taken)) refl

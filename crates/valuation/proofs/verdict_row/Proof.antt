@@ -14,10 +14,6 @@ use Rattle.valuation.specs.Verdicts.{verdict-code}
 use Rattle.valuation.proofs.Standing.{at-most-one, standing-le, standing-more}
 use Rattle.valuation.proofs.verdict_row.Statement.{statement}
 use Rattle.valuation.proofs.verdict_row.Tie as tie
-use Rattle.valuation.proofs.verdict_row.Reads as reads
-use Rattle.valuation.proofs.verdict_row.Lts as lts
-use Rattle.valuation.proofs.stands.Reads as stands-reads
-use Rattle.valuation.proofs.verdict_code.Reads as verdict-code-reads
 
 abbrev Inv-loop : tie.InvT-loop
 Inv-loop points row verdicts₀ total₀ t₀ verdicts total t =

@@ -15,15 +15,6 @@ use Rattle.valuation.proofs.Work.{run-length, run-shows, in-window, poi
 use borrow.Author.Needs.{needs}
 use Rattle.valuation.proofs.work_row.Statement.{statement}
 use Rattle.valuation.proofs.work_row.Tie as tie
-use Rattle.valuation.proofs.work_row.Reads as reads
-use Rattle.valuation.proofs.work_row.Lts as lts
-use Rattle.valuation.proofs.not_row.Reads as not-row-reads
-use Rattle.valuation.proofs.or_row.Reads as or-row-reads
-use Rattle.valuation.proofs.proposition_row.Reads as proposition-row-reads
-use Rattle.valuation.proofs.run_of.Reads as run-of-reads
-use Rattle.valuation.proofs.since_row.Reads as since-row-reads
-use Rattle.valuation.proofs.true_row.Reads as true-row-reads
-use Rattle.valuation.proofs.until_row.Reads as until-row-reads
 
 enum-told : tie.Need-enum-told
 enum-told c = search needs

@@ -2,8 +2,8 @@
 use Prim.Native.Nat.{_≤_, _-_}
 use lib.ListN.{length}
 use borrow.Author.Needs.{needs}
-use Rattle.knowledge_vectors.proofs.line_end.Statement.{statement}
-use Rattle.knowledge_vectors.proofs.line_end.Tie as tie
+use Rattle.hex_lines.proofs.line_end.Statement.{statement}
+use Rattle.hex_lines.proofs.line_end.Tie as tie
 
 abbrev Inv-loop : tie.InvT-loop
 Inv-loop text at end₀ end = (at ≤ end) × (end ≤ length text)

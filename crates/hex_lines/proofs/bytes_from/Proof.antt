@@ -4,14 +4,14 @@ use Prim.Native.Nat.{_≤_, _-_}
 use native.Mathlib.Omega.{arith}
 use lib.ListN.{length, length-set}
 use borrow.Author.Needs.{needs}
-use Rattle.message_vectors.proofs.message_of.Statement.{statement}
-use Rattle.message_vectors.proofs.message_of.Tie as tie
+use Rattle.hex_lines.proofs.bytes_from.Statement.{statement}
+use Rattle.hex_lines.proofs.bytes_from.Tie as tie
 
 abbrev Inv-loop : tie.InvT-loop
-Inv-loop line out₀ total n₀ out n = (n ≤ length out) × (length out ≡ length out₀) × (length out₀ ≤ 32)
+Inv-loop line from out₀ total n₀ out n = (n ≤ length out) × (length out ≡ length out₀) × (length out₀ ≤ 256)
 
 abbrev μ-loop : tie.MeasureT-loop
-μ-loop line out₀ total n₀ out n = 32 - n
+μ-loop line from out₀ total n₀ out n = 256 - n
 
 add-total : tie.Need-add-total Inv-loop μ-loop
 add-total c = search needs
@@ -52,8 +52,8 @@ same-length-2 c = search needs
 returns-2 : tie.Need-returns-2 Inv-loop μ-loop
 returns-2 c = search needs
 
-pub message-of-spec : {M : Type 1} → statement M
-message-of-spec =
+pub bytes-from-spec : {M : Type 1} → statement M
+bytes-from-spec =
     tie.close
     (tie.spec
     Inv-loop

@@ -1,0 +1,2 @@
+-- Laws of Bool.
+pub mod Bools
