@@ -6,7 +6,7 @@ use mathlib.Core.Bool.{Bool, true, false, cond}
 use borrow.Author.Tests.{ltb-true}
 use Rattle.kleene.specs.Truth.{unknown, false3, true3, _⊑_, less, same}
 use Rattle.mtl.specs.Knowing.{Knows, True-to, Decides, open3, is-true, is-false as is-no}
-use Rattle.knowledge.specs.Knowledge.{none, Knowledge, noted, valued, fact, number, Sound, Agrees, Known-point, Known-none, is-point, is-none, world}
+use Rattle.knowledge.specs.Knowledge.{none, says, Knowledge, noted, valued, fact, number, Sound, Agrees, Known-point, Known-none, is-point, is-none, world}
 use Rattle.knowledge.specs.Trace.{Trace, made, time-point, trace-world}
 use Rattle.mtl.specs.Folds.{some-below, none-below}
 use Rattle.decide.specs.Laws.{is-false, itself}
@@ -46,7 +46,7 @@ module _ (c : Sizes) where
   }
     where
       points : (t : ℕ) → t < c .minutes → (p : Bool) → is-point c k t ≡ p → (q : Bool) → is-none c k t ≡ q
-          → cond p true3 (cond q false3 unknown) ⊑ cond (is-point c k′ t) true3 (cond (is-none c k′ t) false3 unknown)
+          → says p q ⊑ says (is-point c k′ t) (is-none c k′ t)
       points t h true e q g = rw (point-more k k′ f t h e) same
       points t h false e true g =
           let quiet : Known-none c k′ t = more-none k k′ f t (none-law c k t .0 g) in
@@ -99,7 +99,7 @@ module _ (c : Sizes) where
       dark = refl;
     }
       where
-        points : (t : ℕ) → t < c .minutes → (p : Bool) → is-point c k t ≡ p → (q : Bool) → is-none c k t ≡ q → Decides (cond p true3 (cond q false3 unknown)) (time-point c w t)
+        points : (t : ℕ) → t < c .minutes → (p : Bool) → is-point c k t ≡ p → (q : Bool) → is-none c k t ≡ q → Decides (says p q) (time-point c w t)
         points t h true e q f = rw (point-so t h (point-law c k t .0 e)) is-true
         points t h false e true f = rw (none-so t h (none-law c k t .0 f)) is-no
         points t h false e false f = open3
