@@ -1,6 +1,6 @@
 -- What a run tells of the minutes between two neighbouring known places, and of those after the last.
 -- Assumes nothing.
-use mathlib.Core.Path.{_≡_, sym, subst}
+use mathlib.Core.Path.{_≡_, sym, ap}
 use mathlib.Core.Logic.{_⊎_, ⊎-elim}
 use Prim.Native.Nat.{ℕ, suc, _+_, _-_, _≤_, _<_}
 use native.Mathlib.Decide.{ℕ-discrete}
@@ -11,7 +11,7 @@ use Rattle.decide.specs.Laws.{is-false}
 use Rattle.kleene.specs.Truth.{unknown, true3, false3}
 use Rattle.knowledge.specs.Knowledge.{none, Steady, Rises, Level}
 use Rattle.knowledge.specs.Run.{Next, gap, told}
-use Rattle.knowledge.specs.Runs.{rises-decides, level-decides, follow-up}
+use Rattle.knowledge.specs.Runs.{rises-decides, level-decides, follow-up, not-both}
 use Rattle.knowledge.proofs.Walk.{not-between}
 
 module _ (f : ℕ → ℕ) (m t : ℕ) where
@@ -52,25 +52,15 @@ module _ (f : ℕ → ℕ) (m p q t : ℕ) (S : Steady f (suc m)) (k : f p < non
 
     even : f p ≡ f q → told f m t ≡ false3
     even e =
-        told-flat f m t
-        (λ (B : Rises f t).
-        let g = own-gap B in
-        let u : f q ≡ suc (f p) = subst (λ (j : ℕ). f j ≡ suc (f p)) (sym (g .1)) (subst (λ (j : ℕ). f (suc t) ≡ suc (f j)) (g .0) (B .apart)) in
-        omega arith)
-        (record { early = p; late = q; early-before = from; late-after = to; late-in = omega arith; early-known = k; late-known = w; equal = e })
+        let v : Level f m t = record { early = p; late = q; early-before = from; late-after = to; late-in = omega arith; early-known = k; late-known = w; equal = e } in
+        told-flat f m t (λ (B : Rises f t). not-both f m t S (omega arith) B v) v
 
     one : (f p ≡ f q → ⊥) → q - p ≡ 1 → told f m t ≡ true3
     one h e =
         let g = S .pairs q there p (omega arith) k w in
-        let tp : p ≡ t = omega arith in
-        let tq : q ≡ suc t = omega arith in
-        let c : f q ≡ suc (f p) = let u = g .up in let s = g .slow in omega arith in
-        told-rises f m t
-        (record {
-          before = subst (λ (j : ℕ). f j < none) tp k;
-          after = subst (λ (j : ℕ). f j < none) tq w;
-          apart = subst (λ (j : ℕ). f j ≡ suc (f t)) tq (subst (λ (j : ℕ). f q ≡ suc (f j)) tp c);
-        })
+        let tp : f p ≡ f t = ap f (let z : p ≡ t = omega arith in z) in
+        let tq : f q ≡ f (suc t) = ap f (let z : q ≡ suc t = omega arith in z) in
+        told-rises f m t (record { before = omega arith; after = omega (arith, w); apart = omega (arith, g .up, g .slow) })
 
     wide : (f p ≡ f q → ⊥) → (q - p ≡ 1 → ⊥) → told f m t ≡ unknown
     wide h d =

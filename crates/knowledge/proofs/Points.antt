@@ -1,20 +1,21 @@
 -- A row joined with what a run tells, one stretch of minutes after another; and what one more component tells.
 -- Assumes nothing.
 use mathlib.Core.Path.{_≡_, refl, sym, ap, ap₂, _∙_}
-use mathlib.Core.Bool.{Bool, true, false, not, cond, _||_}
+use mathlib.Core.Bool.{_||_}
 use mathlib.Core.List.{List}
 use Prim.Native.Nat.{ℕ, _+_, _≤_, _<_}
 use native.Mathlib.Nat.{zero-add}
 use native.Mathlib.Numerals.{add-one}
 use native.Mathlib.Omega.{arith}
 use lib.ListN.{getD}
-use Rattle.kleene.specs.Truth.{Truth, unknown, true3, false3, codeOf, valueOf, or3, read-back}
+use Rattle.kleene.specs.Truth.{Truth, codeOf, valueOf, or3, read-back}
 use Rattle.mtl.specs.Algebra.{any, all}
 use Rattle.mtl.specs.Algebra as algebra
 use Rattle.rows.specs.Over.{Over}
 use Rattle.rows.specs.Laws.{two}
 use Rattle.policy.specs.declared.Sizes.{Sizes}
-use Rattle.knowledge.specs.Knowledge.{Knowledge, number, is-point, is-none, point-known, run-of, rises, level}
+use Rattle.knowledge.specs.Knowledge.{Knowledge, number, is-point, is-none, point-known, run-of, rises, level, says}
+use Rattle.knowledge.proofs.Merging.{or-says, meet-and}
 use Rattle.knowledge.specs.Run.{joined, told}
 
 pub stretch : (f : ℕ → ℕ) (m mid hi : ℕ) (old row new : List ℕ) (code : ℕ) → Over (joined old (told f m)) 0 mid old row
@@ -26,34 +27,17 @@ stretch f m mid hi old row new code o s l e =
 
 -- what the first n components tell of minute t
 unfoldable pub points : List ℕ → ℕ → ℕ → ℕ → Truth
-points l m n t = cond (any algebra.two 0 n (λ c. rises (run-of l m c) t)) true3 (cond (all algebra.two 0 n (λ c. level (run-of l m c) m t)) false3 unknown)
-
-joins : (a b q r : Bool)
-    → cond (a || b) true3 (cond (not (not q || not r)) false3 unknown)
-    ≡ or3 (cond a true3 (cond q false3 unknown)) (cond b true3 (cond r false3 unknown))
-joins true true true true = refl
-joins true true true false = refl
-joins true true false true = refl
-joins true true false false = refl
-joins true false true true = refl
-joins true false true false = refl
-joins true false false true = refl
-joins true false false false = refl
-joins false true true true = refl
-joins false true true false = refl
-joins false true false true = refl
-joins false true false false = refl
-joins false false true true = refl
-joins false false true false = refl
-joins false false false true = refl
-joins false false false false = refl
+points l m n t = says (any algebra.two 0 n (λ c. rises (run-of l m c) t)) (all algebra.two 0 n (λ c. level (run-of l m c) m t))
 
 -- one more component is joined by Kleene's or
 pub points-more : (l : List ℕ) (m n t : ℕ) → points l m (n + 1) t ≡ or3 (points l m n t) (told (run-of l m n) m t)
 unfolding points told
 points-more l m n t =
+    let busy = any algebra.two 0 n (λ c. rises (run-of l m c) t) in
+    let quiet = all algebra.two 0 n (λ c. level (run-of l m c) m t) in
     rw add-one
-    (joins (any algebra.two 0 n (λ c. rises (run-of l m c) t)) (rises (run-of l m (0 + n)) t) (all algebra.two 0 n (λ c. level (run-of l m c) m t)) (level (run-of l m (0 + n)) m t)
+    (ap (says (busy || rises (run-of l m (0 + n)) t)) (meet-and quiet (level (run-of l m (0 + n)) m t))
+    ∙ sym (or-says busy quiet (rises (run-of l m (0 + n)) t) (level (run-of l m (0 + n)) m t))
     ∙ ap (λ (j : ℕ). or3 (points l m n t) (told (run-of l m j) m t)) (zero-add n))
 
 pub all-points : (z : Sizes) (k : Knowledge) (t : ℕ) → points (k .numbers) (z .minutes) (z .components) t ≡ point-known z k t

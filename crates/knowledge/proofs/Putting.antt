@@ -8,7 +8,7 @@ use native.Mathlib.Omega.{arith}
 use borrow.Author.Tests.{eq-eqb, ne-eqb}
 use Rattle.rows.specs.Laws.{lt-or-le}
 use Rattle.knowledge.specs.Knowledge.{none, Follow, Steady}
-use Rattle.knowledge.specs.Run.{Next, Previous, put}
+use Rattle.knowledge.specs.Run.{Next, Previous, put, May}
 use Rattle.knowledge.specs.Runs.{follow-up, steady-less}
 use Rattle.knowledge.proofs.Walk.{follow-more}
 
@@ -53,7 +53,7 @@ module _ (f : ℕ → ℕ) (n p v : ℕ) (l : p < n) (small : v < none) where
     late : (b : ℕ) → f b < none → p < b → q ≤ b
     late b k w = ⊎-elim (λ (g : b < q). let z = N .between b (omega arith) g in absurd (let z : ⊥ = omega arith in z)) (λ (g : q ≤ b). g) (lt-or-le b q)
 
-    pub steady-new : Follow (f r) v (p - r) → (q < n → Follow v (f q) (q - p)) → Steady new n
+    steady-new : Follow (f r) v (p - r) → (q < n → Follow v (f q) (q - p)) → Steady new n
     steady-new g h = record {
       first = other f p v 0 (λ z. let e : none ≤ f 0 = subst (λ (j : ℕ). none ≤ f j) (sym z) hidden in let s = S .first in omega arith) ∙ S .first;
       pairs = λ b w a lt ka kb. go a b lt w ka kb (ℕ-discrete a p) (ℕ-discrete b p);
@@ -76,6 +76,9 @@ module _ (f : ℕ → ℕ) (n p v : ℕ) (l : p < n) (small : v < none) where
             subst (λ (j : ℕ). Follow (new a) (new j) (j - a)) (sym y) (rw (at-place f p v, other f p v a x) m)
         go a b lt w ka kb (no x) (no y) =
             rw (other f p v a x, other f p v b y) (follow-up f n S a b (rw (other f p v a x) at ka) (rw (other f p v b y) at kb) (omega arith) w)
+
+    pub may-new : Follow (f r) v (p - r) → (q < n → Follow v (f q) (q - p)) → May f n p v
+    may-new g h = record { small = small; nothing-else = λ k. absurd (let z : ⊥ = omega arith in z); stored = steady-new g h }
 
     pub needs-above : Steady new n → q < n → Follow v (f q) (q - p)
     needs-above T w =

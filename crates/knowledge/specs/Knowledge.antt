@@ -80,6 +80,10 @@ rises f t = ltb (f t) none && (ltb (f (suc t)) none && eqb (f (suc t)) (suc (f t
 unfoldable pub level : (ℕ → ℕ) → ℕ → ℕ → Bool
 level f m t = any two 0 (suc t) (λ a. any two (suc t) (m - t) (λ b. ltb (f a) none && (ltb (f b) none && eqb (f a) (f b))))
 
+-- "true, false or unknown for busy, quiet or open": p says busy, and q quiet
+abbrev pub says : Bool → Bool → Truth
+says p q = cond p true3 (cond q false3 unknown)
+
 -- v may stand at place p: a number that is known is not overwritten by another, and 65535 stands for no number
 abbrev pub free-place : (ℕ → ℕ) → ℕ → ℕ → Bool
 free-place f p v = ltb v none && (not (ltb (f p) none) || eqb (f p) v)
@@ -157,7 +161,7 @@ module _ (z : Sizes) where
 
   -- "Let e(t) be true, false or unknown for busy, quiet or open"
   abbrev pub point-known : Knowledge → ℕ → Truth
-  point-known k t = cond (is-point k t) true3 (cond (is-none k t) false3 unknown)
+  point-known k t = says (is-point k t) (is-none k t)
 
   -- "From M on, e and every line are unknown": the window is t < M
   abbrev pub world : Knowledge → World Truth

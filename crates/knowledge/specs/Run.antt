@@ -9,7 +9,7 @@ use Rattle.kleene.specs.Truth.{Truth, unknown, true3, false3, codeOf, valueOf, 
 use Rattle.policy.specs.declared.Sizes.{Sizes}
 use Rattle.message.specs.declared.Event.{Event}
 use Rattle.message.specs.Fixes.{Message}
-use Rattle.knowledge.specs.Knowledge.{Knowledge, most-minutes, none, run-of, Steady, steady, rises, level, free-place, point-known}
+use Rattle.knowledge.specs.Knowledge.{Knowledge, most-minutes, none, run-of, Steady, steady, rises, level, says, free-place, point-known}
 
 -- the run of a list
 abbrev pub cell : List ℕ → ℕ → ℕ
@@ -25,7 +25,7 @@ sent component event = record { component = component; event = event }
 
 -- what the run tells of minute t, of which there are m: did its component make an observation
 unfoldable pub told : (ℕ → ℕ) → ℕ → ℕ → Truth
-told f m t = cond (rises f t) true3 (cond (level f m t) false3 unknown)
+told f m t = says (rises f t) (level f m t)
 
 -- what is told of each minute between two neighbouring known places, whose numbers are v and w and which stand d places apart
 unfoldable pub gap : ℕ → ℕ → ℕ → Truth

@@ -2,7 +2,7 @@
 use Prim.Native.Nat.{ℕ, suc, _+_, _-_, _≤_, _<_}
 use native.Mathlib.Omega.{arith}
 use native.Mathlib.Decide.{decLt}
-use mathlib.Core.Path.{_≡_, sym, ap, _∙_}
+use mathlib.Core.Path.{_≡_, sym, _∙_}
 use Rattle.decide.specs.Decide.{Decides}
 use Rattle.decide.specs.Laws.{same, less, most, equal, both, implies, each, some}
 use Rattle.policy.specs.declared.Sizes.{Sizes}
@@ -110,7 +110,7 @@ pub rises-more : (f g : ℕ → ℕ) (m t : ℕ) → t < m → Within f g (suc m
 rises-more f g m t l e R =
     let x = e t (omega arith) (R .before) in
     let y = e (suc t) (omega arith) (R .after) in
-    record { before = rw x at (R .before); after = rw y at (R .after); apart = sym y ∙ R .apart ∙ ap suc x }
+    record { before = rw x at (R .before); after = rw y at (R .after); apart = omega (arith, R .apart) }
 
 pub level-more : (f g : ℕ → ℕ) (m t : ℕ) → Within f g (suc m) → Level f m t → Level g m t
 level-more f g m t e v =

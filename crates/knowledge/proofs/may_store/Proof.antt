@@ -13,7 +13,7 @@ use Rattle.decide.specs.Laws.{is-false, fails, agree, same, equal}
 use Rattle.knowledge.specs.Knowledge.{none, Follow}
 use Rattle.knowledge.specs.Run.{cell, May}
 use Rattle.knowledge.specs.Runs.{follow-decides, may-decides}
-use Rattle.knowledge.proofs.Putting.{again, steady-new, needs-below, needs-above}
+use Rattle.knowledge.proofs.Putting.{again, may-new, needs-below, needs-above}
 use Rattle.knowledge.proofs.may_store.Statement.{statement}
 use Rattle.knowledge.proofs.may_store.Tie as tie
 
@@ -122,11 +122,7 @@ returns-4 c =
     ∙ agree
     (same
     (λ (h : Follow (x .v) (f (q .result)) (q .result - x .place)).
-    record {
-      small = small;
-      nothing-else = λ k. absurd (let z : ⊥ = omega arith in z);
-      stored = steady-new f (length run) (x .place) (x .v) (s .pre .2) small (s .pre .1) hidden (p .result) (q .result) (p .ensures) (q .ensures) below (λ _. h);
-    })
+    may-new f (length run) (x .place) (x .v) (s .pre .2) small (s .pre .1) hidden (p .result) (q .result) (p .ensures) (q .ensures) below (λ _. h))
     (λ (A : May f (length run) (x .place) (x .v)).
     needs-above f (length run) (x .place) (x .v) (s .pre .2) small (s .pre .1) hidden (p .result) (q .result) (p .ensures) (q .ensures) (A .stored) there)
     (follow-decides (x .v) (f (q .result)) (q .result - x .place)))
@@ -149,11 +145,8 @@ returns-5 c =
     let hidden : none ≤ f (x .place) = u .if2 .left in
     sym
     (may-decides f (length run) (x .place) (x .v) .whole
-    (record {
-      small = small;
-      nothing-else = λ k. absurd (let z : ⊥ = omega arith in z);
-      stored = steady-new f (length run) (x .place) (x .v) (s .pre .2) small (s .pre .1) hidden (p .result) (q .result) (p .ensures) (q .ensures) below (λ w. absurd (let z : ⊥ = omega arith in z));
-    }))
+    (may-new f (length run) (x .place) (x .v) (s .pre .2) small (s .pre .1) hidden (p .result) (q .result) (p .ensures) (q .ensures) below
+    (λ w. absurd (let z : ⊥ = omega arith in z))))
 
 pub may-store-spec : {M : Type 1} → statement M
 may-store-spec =

@@ -2,16 +2,16 @@
 -- Assumes nothing.
 use mathlib.Core.Path.{_≡_, refl, sym, ap, subst, _∙_}
 use mathlib.Core.List.{List}
-use Prim.Native.Nat.{ℕ, suc, _+_, _-_, _*_}
+use Prim.Native.Nat.{ℕ, suc, _+_, _-_, _*_, _≤_, _<_}
 use native.Mathlib.Numerals.{add-one}
 use native.Mathlib.Omega.{arith}
 use denote.Ref.{now}
-use lib.ListN.{set}
+use lib.ListN.{length, set}
 use Rattle.policy.specs.declared.Sizes.{Sizes}
 use Rattle.message.specs.declared.Event.{Event}
 use Rattle.message.specs.declared.Event.the-variants.{Observation, Alive}
 use Rattle.message.specs.Fixes.{Fits}
-use Rattle.knowledge.specs.Knowledge.{stored}
+use Rattle.knowledge.specs.Knowledge.{Sized, stored}
 use Rattle.knowledge.specs.Run.{held, sent}
 use Rattle.knowledge.proofs.Parts.{room}
 use borrow.Author.Needs.{needs}
@@ -34,6 +34,19 @@ module _ (z : Sizes) (numbers facts : List ℕ) (c t n : ℕ) where
   unfolding stored
   alive-numbers = rw place refl
 
+-- the message's places are in the lists
+module _ (z : Sizes) (numbers facts : List ℕ) (long : Sized z (held numbers facts)) (c : ℕ) (x : Event) (fits : Fits z (sent c x)) where
+  observation-in : (t n named values : ℕ) → x ≡ Observation t n named values
+      → (c * suc (z .minutes) + suc t < length numbers) × (1 ≤ n) × (2 * t + 1 < length facts)
+  observation-in t n named values e =
+      let f : Fits z (sent c (Observation t n named values)) = subst (λ (y : Event). Fits z (sent c y)) e fits in
+      omega (arith, long .numbers, long .facts, room c (z .components) (suc (z .minutes)) (f .component-in), f .event-in .0, f .event-in .1)
+
+  alive-in : (t n : ℕ) → x ≡ Alive t n → c * suc (z .minutes) + t < length numbers
+  alive-in t n e =
+      let f : Fits z (sent c (Alive t n)) = subst (λ (y : Event). Fits z (sent c y)) e fits in
+      omega (arith, long .numbers, room c (z .components) (suc (z .minutes)) (f .component-in), f .event-in)
+
 add-at : tie.Need-add-at
 add-at c = search needs
 
@@ -54,24 +67,14 @@ add-store-numbers c =
     let e = c .before .before .event .given in
     let s = c .before .before .before .before .before .before .before in
     let x = s .args in
-    let fits : Fits (x .sizes) (sent (x .component) _) = subst (λ (v : Event). Fits (x .sizes) (sent (x .component) v)) (e .1) (s .pre .2) in
-    let space = room (x .component) (x .sizes .components) (suc (x .sizes .minutes)) (s .pre .2 .component-in) in
-    let n = s .pre .1 .numbers in
-    let f = s .pre .1 .facts in
-    let t = fits .event-in .0 in
-    omega arith
+    omega (arith, observation-in (x .sizes) (now (x .numbers)) (now (x .facts)) (s .pre .1) (x .component) _ (s .pre .2) _ _ _ _ (e .1))
 
 store-numbers-requires : tie.Need-store-numbers-requires
 store-numbers-requires c κs =
     let e = c .before .before .event .given in
     let s = c .before .before .before .before .before .before .before in
     let x = s .args in
-    let fits : Fits (x .sizes) (sent (x .component) _) = subst (λ (v : Event). Fits (x .sizes) (sent (x .component) v)) (e .1) (s .pre .2) in
-    let space = room (x .component) (x .sizes .components) (suc (x .sizes .minutes)) (s .pre .2 .component-in) in
-    let n = s .pre .1 .numbers in
-    let f = s .pre .1 .facts in
-    let t = fits .event-in .0 in
-    let o = fits .event-in .1 in
+    let h = observation-in (x .sizes) (now (x .numbers)) (now (x .facts)) (s .pre .1) (x .component) _ (s .pre .2) _ _ _ _ (e .1) in
     (omega arith, omega arith)
 
 mul-store-facts : tie.Need-mul-store-facts
@@ -82,12 +85,7 @@ store-facts-requires c κs =
     let e = c .before .before .before .before .before .before .event .given in
     let s = c .before .before .before .before .before .before .before .before .before .before .before in
     let x = s .args in
-    let fits : Fits (x .sizes) (sent (x .component) _) = subst (λ (v : Event). Fits (x .sizes) (sent (x .component) v)) (e .1) (s .pre .2) in
-    let space = room (x .component) (x .sizes .components) (suc (x .sizes .minutes)) (s .pre .2 .component-in) in
-    let n = s .pre .1 .numbers in
-    let f = s .pre .1 .facts in
-    let t = fits .event-in .0 in
-    omega arith
+    omega (arith, observation-in (x .sizes) (now (x .numbers)) (now (x .facts)) (s .pre .1) (x .component) _ (s .pre .2) _ _ _ _ (e .1))
 
 enum-known-event-2 : tie.Need-enum-known-event-2
 enum-known-event-2 c = search needs
@@ -100,36 +98,21 @@ add-numbers c =
     let e = c .before .event2 .given in
     let s = c .before .before .before .before .before .before in
     let x = s .args in
-    let fits : Fits (x .sizes) (sent (x .component) _) = subst (λ (v : Event). Fits (x .sizes) (sent (x .component) v)) (e .1) (s .pre .2) in
-    let space = room (x .component) (x .sizes .components) (suc (x .sizes .minutes)) (s .pre .2 .component-in) in
-    let n = s .pre .1 .numbers in
-    let f = s .pre .1 .facts in
-    let t = fits .event-in in
-    omega arith
+    omega (arith, alive-in (x .sizes) (now (x .numbers)) (now (x .facts)) (s .pre .1) (x .component) _ (s .pre .2) _ _ (e .1))
 
 mul-numbers : tie.Need-mul-numbers
 mul-numbers c =
     let e = c .before .event2 .given in
     let s = c .before .before .before .before .before .before in
     let x = s .args in
-    let fits : Fits (x .sizes) (sent (x .component) _) = subst (λ (v : Event). Fits (x .sizes) (sent (x .component) v)) (e .1) (s .pre .2) in
-    let space = room (x .component) (x .sizes .components) (suc (x .sizes .minutes)) (s .pre .2 .component-in) in
-    let n = s .pre .1 .numbers in
-    let f = s .pre .1 .facts in
-    let t = fits .event-in in
-    omega arith
+    omega (arith, alive-in (x .sizes) (now (x .numbers)) (now (x .facts)) (s .pre .1) (x .component) _ (s .pre .2) _ _ (e .1))
 
 slice-write-numbers : tie.Need-slice-write-numbers
 slice-write-numbers c =
     let e = c .before .event2 .given in
     let s = c .before .before .before .before .before .before in
     let x = s .args in
-    let fits : Fits (x .sizes) (sent (x .component) _) = subst (λ (v : Event). Fits (x .sizes) (sent (x .component) v)) (e .1) (s .pre .2) in
-    let space = room (x .component) (x .sizes .components) (suc (x .sizes .minutes)) (s .pre .2 .component-in) in
-    let n = s .pre .1 .numbers in
-    let f = s .pre .1 .facts in
-    let t = fits .event-in in
-    omega arith
+    omega (arith, alive-in (x .sizes) (now (x .numbers)) (now (x .facts)) (s .pre .1) (x .component) _ (s .pre .2) _ _ (e .1))
 
 same-length : tie.Need-same-length
 same-length c = search needs
