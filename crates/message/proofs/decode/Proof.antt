@@ -5,7 +5,8 @@ use native.Mathlib.Omega.{arith}
 use borrow.Author.Tests.{not-true, not-false}
 use Rattle.refusal.specs.declared.Refusal.the-variants.{TruncatedMessage}
 use Rattle.message.specs.Format.{goodFields, refusedWith}
-use Rattle.message.specs.Laws.{refuses, takes, causes, decodes}
+use Rattle.message.specs.Reads.{refuses, takes}
+use Rattle.message.specs.Laws.{causes, decodes}
 use Rattle.message.specs.Proper.{early, extra}
 use Rattle.message.proofs.Reading.{Told, told, accepted}
 use borrow.Author.Needs.{needs}
@@ -40,8 +41,8 @@ fields-of-requires c κs =
     let t = subst (Told s) (sym (c .before .before .before .before .measure .ensures) ∙ c .before .before .whole .given .1) (told s) in
     t .1
 
-good-message-requires : tie.Need-good-message-requires
-good-message-requires c κs = search needs
+good-fields-requires : tie.Need-good-fields-requires
+good-fields-requires c κs = search needs
 
 refused-requires-3 : tie.Need-refused-requires-3
 refused-requires-3 c κs = search needs
@@ -51,10 +52,10 @@ returns-2 c =
     let s = c .before .before .before .before .before .before .before .before .before .before .args .s .now in
     let t = subst (Told s) (sym (c .before .before .before .before .before .before .before .before .measure .ensures) ∙ c .before .before .before .before .before .before .whole .given .1) (told s) in
     let z = c .before .before .before .before .before .before .before .before .before .before .args .sizes in
-    c .refused3 .ensures ∙ sym (decodes z s _ (refuses z s (omega arith) (ap (goodFields z) (sym (c .before .before .before .fields-of .ensures)) ∙ sym (c .before .before .good-message .ensures) ∙ not-true _ (c .before .if2 .taken))))
+    c .refused3 .ensures ∙ sym (decodes z s _ (refuses z s (omega arith) (ap (goodFields z) (sym (c .before .before .before .fields-of .ensures)) ∙ sym (c .before .before .good-fields .ensures) ∙ not-true _ (c .before .if2 .taken))))
 
-event-of-requires : tie.Need-event-of-requires
-event-of-requires c κs = search needs
+event-in-requires : tie.Need-event-in-requires
+event-in-requires c κs = search needs
 
 cast-t10 : tie.Need-cast-t10
 cast-t10 c = search needs
@@ -71,7 +72,7 @@ returns-4 c =
     let s = c .before .before .before .before .before .before .before .before .before .before .before .args .s .now in
     let t = subst (Told s) (sym (c .before .before .before .before .before .before .before .before .before .measure .ensures) ∙ c .before .before .before .before .before .before .before .whole .given .1) (told s) in
     let z = c .before .before .before .before .before .before .before .before .before .before .before .args .sizes in
-    accepted (c .before .event-of .ensures) (c .before .before .before .before .fields-of .ensures) ∙ sym (decodes z s _ (takes z s (omega arith) (ap (goodFields z) (sym (c .before .before .before .before .fields-of .ensures)) ∙ sym (c .before .before .before .good-message .ensures) ∙ not-false _ (c .before .before .if2 .left))))
+    accepted (c .before .event-in .ensures) (c .before .before .before .before .fields-of .ensures) ∙ sym (decodes z s _ (takes z s (omega arith) (ap (goodFields z) (sym (c .before .before .before .before .fields-of .ensures)) ∙ sym (c .before .before .before .good-fields .ensures) ∙ not-false _ (c .before .before .if2 .left))))
 
 pub decode-spec : {M : Type 1} → statement M
 decode-spec =
@@ -84,10 +85,10 @@ decode-spec =
     refused-requires-2
     returns
     fields-of-requires
-    good-message-requires
+    good-fields-requires
     refused-requires-3
     returns-2
-    event-of-requires
+    event-in-requires
     cast-t10
     returns-3
     returns-4)

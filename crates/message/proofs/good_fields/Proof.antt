@@ -3,8 +3,8 @@ use mathlib.Core.Path.{sym, _∙_}
 use borrow.Author.Tests.{lt-ltb, le-ltb, not-true, not-false}
 use Rattle.message.specs.Format.{goodFields}
 use borrow.Author.Needs.{needs}
-use Rattle.message.proofs.good_message.Statement.{statement}
-use Rattle.message.proofs.good_message.Tie as tie
+use Rattle.message.proofs.good_fields.Statement.{statement}
+use Rattle.message.proofs.good_fields.Tie as tie
 
 returns : tie.Need-returns
 unfolding goodFields
@@ -41,8 +41,8 @@ returns-5 : tie.Need-returns-5
 unfolding goodFields
 returns-5 c = simp (lt-ltb _ _ (c .before .before .before .before .before .before .before .before .if1 .left), sym (c .before .before .before .before .before .before .before .all-written .ensures) ∙ not-false _ (c .before .before .before .before .before .before .if2 .left), lt-ltb _ _ (c .before .before .before .if3 .left), sym (c .before .before .has .ensures) ∙ c .before .if4 .left, c .good-observation .ensures)
 
-pub good-message-spec : {M : Type 1} → statement M
-good-message-spec =
+pub good-fields-spec : {M : Type 1} → statement M
+good-fields-spec =
     tie.close
     (tie.spec
     returns
