@@ -18,7 +18,8 @@ use Rattle.policy.specs.declared.Policy.{Policy}
 use Rattle.refusal.specs.declared.Answer.the-variants as C
 use Rattle.policy.specs.Format.{policyOf, countOf, rulesUpTo}
 use Rattle.policy.specs.Proper.{formulaAt, rulesOf, Between, Cut, Misheaded, Misformed, Whole}
-use Rattle.message.specs.Format.{lengthOf, goodMessage}
+use Rattle.message.specs.Format.{lengthOf}
+use Rattle.message.specs.Encoded.{Is-message}
 use Rattle.message.specs.Fixes.{Message, Fixes-number, Fixes-fact, Well-formed, meaningOf}
 use Rattle.message.specs.Proper.{Cut as Cut-message}
 use Rattle.knowledge.specs.Trace.{Trace, Admits, Admits-all, time-point}
@@ -113,7 +114,7 @@ pub record Take-causes (s : List ℕ) (x : State) (b : List ℕ) (o : Outcome) :
   pub five : (o .answer ≡ Refused BufferSize) ↔ (Policy-passed s × (Sized (policyOf s) x → ⊥))
   pub six : (o .answer ≡ Refused CorruptKnowledge) ↔ (Policy-passed s × Sized (policyOf s) x × (Sound (sizesOf s) (x .known) → ⊥))
   pub seven : (at : ℕ) → (o .answer ≡ Refused (TruncatedMessage at)) ↔ (Passed s x × Cut-message b at)
-  pub eight : (o .answer ≡ Refused BadMessage) ↔ (Passed s x × (length b ≡ lengthOf b) × (goodMessage (sizesOf s) b ≡ false))
+  pub eight : (o .answer ≡ Refused BadMessage) ↔ (Passed s x × (length b ≡ lengthOf b) × (Is-message (sizesOf s) b → ⊥))
   pub nine : (o .answer ≡ Refused Conflict) ↔ (Passed s x × Well-formed (sizesOf s) b × (Some-trace (sizesOf s) (x .known) (meaningOf b) → ⊥))
   pub taken : Taken (o .answer) ↔ (Passed s x × Well-formed (sizesOf s) b × Some-trace (sizesOf s) (x .known) (meaningOf b))
   pub unwritten : (r : Refusal) → o .answer ≡ Refused r → o .state ≡ x
