@@ -15,7 +15,7 @@ ghost use lib.Dec.{ltb};
 ghost use lib.ListN.{length};
 ghost use Rattle.bits.specs.Digits.{below, expanded};
 ghost use Rattle.encoding.specs.Fields.{field8};
-ghost use Rattle.message.specs.Format.{minuteAt, numberAt, namedAt, valuesAt, valueBytes, packedAt, fieldsOf, lengthOf, measured, goodAlive, goodObservation, allWritten, goodFields, eventIn, refusedWith, decodeOf};
+ghost use Rattle.message.specs.Format.{minuteAt, numberAt, namedAt, valuesAt, valueBytes, packedAt, fieldsOf, lengthOf, measured, goodAlive, goodObservation, goodEvent, allWritten, goodFields, eventIn, refusedWith, decodeOf};
 
 // The bits of the map: which fields follow it, in their order, and whether it is an alive slip.
 const COMPONENT: u8 = 1;
@@ -204,61 +204,46 @@ fn fits_below(word: u32, k: usize) -> bool
 fn good_alive(f: Fields, sizes: Sizes) -> bool
     ensures { λ r. ⌜ r ≡ goodAlive sizes f ⌝ }
 {
-    if f.named != 0 {
-        return false;
-    }
-    f.minute as usize <= sizes.minutes
+    (f.named == 0) & (f.minute as usize <= sizes.minutes)
 }
 
 // The rules of an observation.
 fn good_observation(f: Fields, sizes: Sizes) -> bool
     ensures { λ r. ⌜ r ≡ goodObservation sizes f ⌝ }
 {
-    if sizes.minutes <= f.minute as usize {
-        return false;
+    let named = fits_below(f.named, sizes.propositions);
+    let packed = fits_below(f.packed, count(f.named));
+    ((f.minute as usize) < sizes.minutes) & ((1 <= f.number) & (named & packed))
+}
+
+// The rules of its kind.
+fn good_event(f: Fields, sizes: Sizes) -> bool
+    ensures { λ r. ⌜ r ≡ goodEvent sizes f ⌝ }
+{
+    if has(f.map, ALIVE) {
+        return good_alive(f, sizes);
     }
-    if f.number < 1 {
-        return false;
-    }
-    if !fits_below(f.named, sizes.propositions) {
-        return false;
-    }
-    fits_below(f.packed, count(f.named))
+    good_observation(f, sizes)
 }
 
 // No written field is 0.
 fn all_written(f: Fields) -> bool
     ensures { λ r. ⌜ r ≡ allWritten f ⌝ }
 {
-    if !is_written(has(f.map, COMPONENT), f.component as u32) {
-        return false;
-    }
-    if !is_written(has(f.map, MINUTE), f.minute as u32) {
-        return false;
-    }
-    if !is_written(has(f.map, NUMBER), f.number as u32) {
-        return false;
-    }
-    is_written(has(f.map, NAMED), f.named)
+    let component = is_written(has(f.map, COMPONENT), f.component as u32);
+    let minute = is_written(has(f.map, MINUTE), f.minute as u32);
+    let number = is_written(has(f.map, NUMBER), f.number as u32);
+    let named = is_written(has(f.map, NAMED), f.named);
+    component & (minute & (number & named))
 }
 
 // The rules of a message.
 fn good_fields(f: Fields, sizes: Sizes) -> bool
     ensures { λ r. ⌜ r ≡ goodFields sizes f ⌝ }
 {
-    if SPARE <= f.map {
-        return false;
-    }
-    if !all_written(f) {
-        return false;
-    }
-    if sizes.components <= f.component as usize {
-        return false;
-    }
-    if has(f.map, ALIVE) {
-        return good_alive(f, sizes);
-    }
-    good_observation(f, sizes)
+    let written = all_written(f);
+    let event = good_event(f, sizes);
+    (f.map < SPARE) & (written & (((f.component as usize) < sizes.components) & event))
 }
 
 // What the fields say.
