@@ -1,9 +1,9 @@
 -- The tests on facts as operations on whole words, as code has them. Assumes nothing.
-use Prim.Native.Nat.{ℕ, zero, suc, _+_, _-_, _*_, _/_, _%_, _^_, _≤_, _<_, min}
+use Prim.Native.Nat.{ℕ, zero, suc, _-_, _/_, _%_, _^_, _<_, min}
 use native.Mathlib.Nat.{one-le-pow, pow-succ'}
 use native.Mathlib.Omega.{arith}
-use mathlib.Core.Path.{_≡_, refl, sym, ap, ap₂, _∙_}
-use mathlib.Core.Bool.{Bool, true, false, not, _&&_, _||_, xor}
+use mathlib.Core.Path.{_≡_, refl, sym, ap, _∙_}
+use mathlib.Core.Bool.{Bool, true, false, _&&_, xor}
 use mathlib.Core.Logic.{_↔_}
 use lib.Dec.{eqb}
 use lib.Bits.{bitAnd, bitXor, differ, and-step, xor-step}

@@ -1,11 +1,10 @@
 -- Laws of the bits.
-use mathlib.Core.Path.{_≡_, refl, sym, ap, _∙_, subst}
+use mathlib.Core.Path.{_≡_, refl, sym, ap, _∙_}
 use mathlib.Core.Logic.{_⊎_, inl, inr, ⊎-elim}
 use Prim.Native.Nat.{ℕ, zero, suc, _+_, _-_, _*_, _/_, _%_, _^_, _≤_, _<_, zero-le, suc-le-suc}
 use native.Mathlib.Omega.{arith}
 use native.Mathlib.Nat.{div-one, pow-suc, mod-lt, le-of-suc-le-suc, not-suc-le-zero, div-div-eq-div-mul, mul-comm, zero-lt-suc, add-zero, add-suc, zero-mul, mul-zero, one-mul, le-refl, mul-assoc, eq-or-lt-of-le}
 use lib.Count.{ones, ones-step, trailingZeros, under}
-use lib.Pow.{pow-pos}
 use lib.Arith.{lt-one}
 use mathlib.Core.Bool.{Bool, true, false, true≢false}
 use lib.Dec.{eqb}
