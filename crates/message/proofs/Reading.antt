@@ -1,5 +1,5 @@
 -- A field takes all its bytes or none, so each place is found from the map and lies inside a message that is whole. Assumes nothing.
-use mathlib.Core.Path.{_≡_, refl, sym, ap, ap₂, _∙_}
+use mathlib.Core.Path.{_≡_, refl, sym, ap, ap₂, subst, _∙_}
 use mathlib.Core.Bool.{Bool, true, false, cond}
 use mathlib.Core.List.{List}
 use Prim.Native.Nat.{ℕ, _+_, _≤_, _<_}
@@ -70,13 +70,16 @@ abbrev pub Told : List ℕ → Length → Type 0
 Told s (Whole n) = (n ≡ lengthOf s) × (lengthOf s ≤ length s)
 Told s EndsEarly = length s < lengthOf s
 
-pub told : (s : List ℕ) → Told s (measured s)
+tells : (s : List ℕ) → Told s (measured s)
 unfolding measured
-told s = go (leb (lengthOf s) (length s)) refl
+tells s = go (leb (lengthOf s) (length s)) refl
   where
     go : (b : Bool) → leb (lengthOf s) (length s) ≡ b → Told s (cond b (Whole (lengthOf s)) EndsEarly)
     go true e = (refl, leb-true _ _ e)
     go false e = leb-false _ _ e
+
+pub told : (s : List ℕ) {found shown : Length} → found ≡ measured s → found ≡ shown → Told s shown
+told s e q = subst (Told s) (sym e ∙ q) (tells s)
 
 -- the answer that the code puts together
 pub accepted : {f g : Fields} {e : Event} → e ≡ eventIn f → f ≡ g → record { answer = Accepted; component = f .component; event = e } ≡ acceptedWith g

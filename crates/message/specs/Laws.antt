@@ -36,6 +36,10 @@ module _ (z : Sizes) (s : List ℕ) where
   uncut (early h) = here (lt-leb _ _ h)
   uncut (extra h) = there (le-leb (lengthOf s) (length s) (omega arith)) (here (ne-eqb (lengthOf s) (length s) (λ e. omega arith)))
 
+  pub refused-cut : (at : ℕ) → Cut s at → answerOf z s ≡ Refused (TruncatedMessage at)
+  unfolding answerOf
+  refused-cut at c = refusal-law (message-checks z s) (TruncatedMessage at) .1 (uncut c)
+
   -- 8 is after 7, and says that the bytes are no message
   broken : Refuses (message-checks z s) BadMessage → length s ≡ lengthOf s
   broken (there p (there q (here g))) = sym (eqb-true _ _ q)
@@ -50,10 +54,7 @@ module _ (z : Sizes) (s : List ℕ) where
   pub causes : Causes z s
   unfolding answerOf
   causes = record {
-    seven = λ at. (
-      λ e. cut at (refusal-law (message-checks z s) (TruncatedMessage at) .0 e),
-      λ c. refusal-law (message-checks z s) (TruncatedMessage at) .1 (uncut c),
-    );
+    seven = λ at. (λ e. cut at (refusal-law (message-checks z s) (TruncatedMessage at) .0 e), λ c. refused-cut at c);
     eight = (
       λ e. (broken (refusal-law (message-checks z s) BadMessage .0 e), λ m. not-accepted BadMessage (sym e ∙ accepts z s .1 m)),
       λ h. refused-bad (h .0) (h .1),

@@ -1,5 +1,5 @@
 -- The reader takes just the bytes that are a message (`accepts`), and what it reads is what stands in them (`reads`).
-use Prim.Native.Nat.{ℕ, zero, suc, _+_, _*_, _/_, _^_, _≤_, _<_}
+use Prim.Native.Nat.{ℕ, zero, suc, _+_, _^_, _≤_, _<_}
 use native.Mathlib.Omega.{arith}
 use native.Mathlib.Nat.{add-zero}
 use mathlib.Core.Path.{_≡_, refl, sym, ap, ap₂, subst, _∙_, fun-ext}
@@ -9,7 +9,6 @@ use mathlib.Core.List.{List, [], _∷_}
 use lib.Dec.{eqb, ltb, leb}
 use lib.ListN.{getD, length}
 use borrow.Author.Tests.{ltb-true, lt-ltb, leb-true, le-leb, eqb-true, eq-eqb}
-use Rattle.bits.specs.Bits.{bit}
 use Rattle.bits.specs.Digits.{digit, below, expanded}
 use Rattle.bits.specs.Packed.{below-le, expanded-lt, expanded-value, expanded-other, expanded-only}
 use Rattle.bits.specs.Masks.{bits-below}
@@ -25,7 +24,7 @@ use Rattle.message.specs.declared.Fields.{Fields}
 use Rattle.message.specs.declared.Event.{Event}
 use Rattle.message.specs.declared.Event.the-variants.{Observation, Alive}
 use Rattle.message.specs.Format.{widths, mapOf, valuesAt, componentOf, minuteOf, numberOf, namedOf, valueBytes, packedAt, packedOf, fieldsOf, lengthOf, goodAlive, goodObservation, allWritten, goodFields, goodMessage, message-checks, answerOf, eventIn}
-use Rattle.message.specs.Encoded.{ones, Values, Is-event, is-observation, is-alive, is-alive-event, bytes-at, Is-message}
+use Rattle.message.specs.Encoded.{Values, Is-event, is-observation, is-alive, is-alive-event, bytes-at, Is-message}
 use Rattle.message.specs.Fixes.{Message, meaningOf}
 
 pub both : (a b : Bool) → (a && b) ≡ true → (a ≡ true) × (b ≡ true)
