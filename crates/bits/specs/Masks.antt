@@ -1,6 +1,6 @@
 -- The tests on facts as operations on whole words, as code has them. Assumes nothing.
-use Prim.Native.Nat.{ℕ, zero, suc, _/_, _^_, _<_, min}
-use native.Mathlib.Nat.{one-le-pow}
+use Prim.Native.Nat.{ℕ, zero, suc, _-_, _/_, _%_, _^_, _<_, min}
+use native.Mathlib.Nat.{one-le-pow, pow-succ'}
 use native.Mathlib.Omega.{arith}
 use mathlib.Core.Path.{_≡_, refl, sym, ap, _∙_}
 use mathlib.Core.Bool.{Bool, true, false, _&&_, xor}
@@ -37,3 +37,11 @@ low-bits w p n h = (λ l i k e. bit-below p n l i e, λ f. below w p n h f)
     below zero (suc p) n h f = omega (arith, one-le-pow (suc p) 2 (omega arith))
     below (suc w) (suc p) n h f =
         omega (arith, below w p (n / 2) (omega arith) (λ i l e. omega (arith, f (suc i) (omega arith) (bit-suc n i ∙ e))))
+
+beyond : (n : ℕ) → n < 2 ^ n
+beyond zero = omega arith
+beyond (suc n) = rw (pow-succ' 2 n) (omega (arith, beyond n))
+
+-- the same of any number
+pub bits-below : (p n : ℕ) → (n < 2 ^ p) ↔ ((i : ℕ) → bit n i ≡ true → i < p)
+bits-below p n = (λ l i e. bit-below p n l i e, λ f. low-bits n p n (beyond n) .1 (λ i l e. f i e))

@@ -6,11 +6,11 @@ use native.Mathlib.Omega.{arith}
 use native.Mathlib.Nat.{div-one, pow-suc, mod-lt, le-of-suc-le-suc, not-suc-le-zero, div-div-eq-div-mul, mul-comm, zero-lt-suc, add-zero, add-suc, zero-mul, mul-zero, one-mul, le-refl, mul-assoc, eq-or-lt-of-le}
 use lib.Count.{ones, ones-step, trailingZeros, under}
 use lib.Arith.{lt-one}
-use mathlib.Core.Bool.{true}
+use mathlib.Core.Bool.{Bool, true, false, true≢false}
 use lib.Dec.{eqb}
 use borrow.Author.Tests.{eqb-true, eq-eqb}
 use Rattle.bits.specs.Digits.{digit, below, expanded}
-use Rattle.bits.specs.Bits.{bit, bit-below}
+use Rattle.bits.specs.Bits.{bit, bit-below, bits-same}
 
 pub digit-low : (n : ℕ) → digit n 0 ≡ n % 2
 unfolding digit
@@ -36,6 +36,11 @@ below-step (suc k) n =
     let ih : below k n + digit n k ≡ n % 2 + below k (n / 2) = below-step k n in
     let e = digit-up n k in
     omega arith
+
+pub below-le : (k n : ℕ) → below k n ≤ k
+unfolding below
+below-le zero n = zero-le
+below-le (suc k) n = omega (arith, below-le k n, digit-lt n k)
 
 -- a number of k digits has as many set as `count_ones` says
 pub below-ones : (k n : ℕ) → n < 2 ^ k → below k n ≡ ones n
@@ -195,6 +200,28 @@ expanded-named n map v k e =
   where
     set : (b x : ℕ) → b < 2 → b * x ≡ 1 → b ≡ 1
     set b x h q = ⊎-elim (λ (z : b ≡ 0). absurd (omega (arith, zero-mul x, ap (λ (y : ℕ). y * x) z))) (λ (o : b ≡ 1). o) (two b h)
+
+-- a place that the map has takes the packed bit whose number is how many places it has below, and any other has none
+pub expanded-value : (n map v k : ℕ) → k < n → bit map k ≡ true → bit (expanded n map v) k ≡ bit v (below k map)
+expanded-value n map v k l e =
+    let one : digit map k ≡ 1 = eqb-true _ _ (sym (bit-digit map k) ∙ e) in
+    let same : digit (expanded n map v) k ≡ digit v (below k map) = expanded-bit n k map v l ∙ rw (one, one-mul) in
+    bit-digit (expanded n map v) k ∙ ap (λ (x : ℕ). eqb x 1) same ∙ sym (bit-digit v (below k map))
+
+pub expanded-other : (n map v k : ℕ) → bit map k ≡ false → bit (expanded n map v) k ≡ false
+expanded-other n map v k e = go (bit (expanded n map v) k) refl
+  where
+    go : (b : Bool) → bit (expanded n map v) k ≡ b → bit (expanded n map v) k ≡ false
+    go true f = absurd (true≢false (sym (expanded-named n map v k f) ∙ e))
+    go false f = f
+
+-- and no other number of n bits is so
+pub expanded-only : (n map v x : ℕ) → x < 2 ^ n → ((k : ℕ) → k < n → bit map k ≡ true → bit x k ≡ bit v (below k map)) → ((k : ℕ) → bit map k ≡ false → bit x k ≡ false) → x ≡ expanded n map v
+expanded-only n map v x h named other = bits-same n x (expanded n map v) h (expanded-lt n map v) (λ k l. go k l (bit map k) refl)
+  where
+    go : (k : ℕ) → k < n → (b : Bool) → bit map k ≡ b → bit x k ≡ bit (expanded n map v) k
+    go k l true e = named k l e ∙ sym (expanded-value n map v k l e)
+    go k l false e = other k e ∙ sym (expanded-other n map v k e)
 
 -- places 1, 4, 5 and 7 take the packed bits 1, 0, 1 and 1
 worked : expanded 32 0b10110010 0b1101 ≡ 162

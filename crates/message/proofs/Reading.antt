@@ -1,6 +1,6 @@
 -- A field takes all its bytes or none, so each place is found from the map and lies inside a message that is whole. Assumes nothing.
-use mathlib.Core.Path.{_≡_, refl, sym, ap, ap₂, _∙_}
-use mathlib.Core.Bool.{Bool, true, false, cond, _&&_}
+use mathlib.Core.Path.{_≡_, refl, sym, ap, ap₂, subst, _∙_}
+use mathlib.Core.Bool.{Bool, true, false, cond}
 use mathlib.Core.List.{List}
 use Prim.Native.Nat.{ℕ, _+_, _≤_, _<_}
 use native.Mathlib.Omega.{arith}
@@ -8,7 +8,7 @@ use native.Mathlib.Nat.{add-zero}
 use lib.Dec.{ltb, leb}
 use lib.ListN.{length}
 use borrow.Author.Tests.{le-leb, lt-leb, leb-true, leb-false}
-use Rattle.encoding.specs.Fields.{has, size, longOf, field8, field32, written}
+use Rattle.encoding.specs.Fields.{has, size, longOf, field8, field32}
 use Rattle.refusal.specs.declared.Answer.the-variants.{Accepted}
 use Rattle.message.specs.declared.Fields.{Fields}
 use Rattle.message.specs.declared.Event.{Event}
@@ -25,13 +25,6 @@ pub sized : {r n : ℕ} {found bit : Bool} → r ≡ size found n → found ≡ 
 sized {r} {n} {found} {bit} e h =
     let f : r ≡ size bit n = e ∙ ap (λ (b : Bool). size b n) h in
     (f, omega (arith, f, size-le bit n))
-
--- what the code finds of a written field
-pub written-found : {r found bit b : Bool} (v : ℕ) → r ≡ written found v → found ≡ bit → r ≡ b → written bit v ≡ b
-written-found v e h q = sym (ap (λ (x : Bool). written x v) h) ∙ sym e ∙ q
-
-pub fourth : {a b c d r : Bool} → a ≡ true → b ≡ true → c ≡ true → r ≡ d → r ≡ (a && (b && (c && d)))
-fourth p q u e = rw (p, q, u) e
 
 -- the four value bytes, found one by one
 pub packed : (s : List ℕ) (n at : ℕ) {r a b c d : ℕ} → r ≡ longOf a b c d → a ≡ field8 s (ltb 0 n) (at + 0) → b ≡ field8 s (ltb 1 n) (at + 1) → c ≡ field8 s (ltb 2 n) (at + 2) → d ≡ field8 s (ltb 3 n) (at + 3) → r ≡ packedAt s n at
@@ -77,13 +70,16 @@ abbrev pub Told : List ℕ → Length → Type 0
 Told s (Whole n) = (n ≡ lengthOf s) × (lengthOf s ≤ length s)
 Told s EndsEarly = length s < lengthOf s
 
-pub told : (s : List ℕ) → Told s (measured s)
+tells : (s : List ℕ) → Told s (measured s)
 unfolding measured
-told s = go (leb (lengthOf s) (length s)) refl
+tells s = go (leb (lengthOf s) (length s)) refl
   where
     go : (b : Bool) → leb (lengthOf s) (length s) ≡ b → Told s (cond b (Whole (lengthOf s)) EndsEarly)
     go true e = (refl, leb-true _ _ e)
     go false e = leb-false _ _ e
+
+pub told : (s : List ℕ) {found shown : Length} → found ≡ measured s → found ≡ shown → Told s shown
+told s e q = subst (Told s) (sym e ∙ q) (tells s)
 
 -- the answer that the code puts together
 pub accepted : {f g : Fields} {e : Event} → e ≡ eventIn f → f ≡ g → record { answer = Accepted; component = f .component; event = e } ≡ acceptedWith g

@@ -30,3 +30,39 @@ pub record Small-shift : Type 0 where
 pub small-shift : Small-shift
 unfolding decodeOf answerOf eventIn goodFields allWritten goodObservation goodAlive lengthOf fieldsOf packedOf namedOf numberOf minuteOf componentOf expanded below digit
 small-shift = record { a = refl; b = refl; d = refl; alive = refl; no-number = refl; empty = refl }
+
+-- One message with every field, and one for each rule that a message can break.
+abbrev larger : Sizes
+larger = record { propositions = 3; components = 2; minutes = 4 }
+
+pub record Rules : Type 0 where
+  -- station 1, minute 3, count 258, marks 0 and 2, the second of them true
+  pub every :
+      decodeOf larger (0x0F ∷ 0x01 ∷ 0x03 ∷ 0x00 ∷ 0x02 ∷ 0x01 ∷ 0x05 ∷ 0x00 ∷ 0x00 ∷ 0x00 ∷ 0x02 ∷ [])
+      ≡ record { answer = Accepted; component = 1; event = Observation 3 258 5 4 }
+  -- "an observation at minute 4 is 8"; an alive slip at minute 4 is taken, and "minute 5 in its place is 8"
+  pub late : decodeOf sizes (0x06 ∷ 0x04 ∷ 0x00 ∷ 0x03 ∷ 0x00 ∷ []) ≡ refusedWith BadMessage
+  pub alive-last : decodeOf sizes (0x16 ∷ 0x04 ∷ 0x00 ∷ 0x02 ∷ 0x00 ∷ []) ≡ says (Alive 4 2)
+  pub alive-late : decodeOf sizes (0x16 ∷ 0x05 ∷ 0x00 ∷ 0x02 ∷ 0x00 ∷ []) ≡ refusedWith BadMessage
+  pub alive-named : decodeOf sizes (0x18 ∷ 0x01 ∷ 0x00 ∷ 0x00 ∷ 0x00 ∷ 0x00 ∷ []) ≡ refusedWith BadMessage
+  -- a station of the card's number, a mark of its number, a spare value bit, bit 5, and a minute written as 0
+  pub station : decodeOf larger (0x11 ∷ 0x02 ∷ []) ≡ refusedWith BadMessage
+  pub mark : decodeOf sizes (0x0C ∷ 0x01 ∷ 0x00 ∷ 0x02 ∷ 0x00 ∷ 0x00 ∷ 0x00 ∷ 0x00 ∷ []) ≡ refusedWith BadMessage
+  pub spare-value : decodeOf sizes (0x0C ∷ 0x01 ∷ 0x00 ∷ 0x01 ∷ 0x00 ∷ 0x00 ∷ 0x00 ∷ 0x02 ∷ []) ≡ refusedWith BadMessage
+  pub spare-bit : decodeOf sizes (0x30 ∷ []) ≡ refusedWith BadMessage
+  pub written-zero : decodeOf sizes (0x12 ∷ 0x00 ∷ 0x00 ∷ []) ≡ refusedWith BadMessage
+
+pub rules : Rules
+unfolding decodeOf answerOf eventIn goodFields allWritten goodObservation goodAlive lengthOf fieldsOf packedOf namedOf numberOf minuteOf componentOf expanded below digit
+rules = record {
+  every = refl;
+  late = refl;
+  alive-last = refl;
+  alive-late = refl;
+  alive-named = refl;
+  station = refl;
+  mark = refl;
+  spare-value = refl;
+  spare-bit = refl;
+  written-zero = refl;
+}

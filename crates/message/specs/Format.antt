@@ -98,6 +98,10 @@ goodObservation z f =
     && (ltb (f .named) (2 ^ z .propositions)
     && ltb (f .packed) (2 ^ below 32 (f .named))))
 
+-- "Bit 4 makes it an alive slip"
+abbrev pub goodEvent : Sizes → Fields → Bool
+goodEvent z f = cond (has (f .map) 4) (goodAlive z f) (goodObservation z f)
+
 -- "A written field is not 0; the value bytes are exempt"
 unfoldable pub allWritten : Fields → Bool
 allWritten f =
@@ -106,13 +110,13 @@ allWritten f =
     && (written (has (f .map) 2) (f .number)
     && written (has (f .map) 3) (f .named)))
 
--- "Bits 5 to 7 are 0." A station of the card. "Bit 4 makes it an alive slip"
+-- "Bits 5 to 7 are 0." A station of the card
 unfoldable pub goodFields : Sizes → Fields → Bool
 goodFields z f =
     ltb (f .map) 32
     && (allWritten f
     && (ltb (f .component) (z .components)
-    && cond (has (f .map) 4) (goodAlive z f) (goodObservation z f)))
+    && goodEvent z f))
 
 abbrev pub goodMessage : Sizes → List ℕ → Bool
 goodMessage z s = goodFields z (fieldsOf s)

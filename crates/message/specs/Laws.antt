@@ -1,28 +1,26 @@
 -- What the message reader's answers mean: each has its own cause, and a well-formed message has the ranges that its policy gives.
-use Prim.Native.Nat.{ℕ, _^_, _*_, _≤_, _<_}
+use Prim.Native.Nat.{ℕ, _^_, _≤_, _<_}
 use native.Mathlib.Omega.{arith}
-use mathlib.Core.Path.{_≡_, refl, sym, ap, subst}
-use mathlib.Core.Bool.{Bool, true, false, cond, _&&_, false≢true}
+use mathlib.Core.Path.{_≡_, refl, sym, ap, _∙_}
+use mathlib.Core.Bool.{Bool, true, false, true≢false}
 use mathlib.Core.List.{List}
-use lib.Dec.{ltb, leb, eqb}
 use lib.ListN.{length}
 use lib.Pow.{pow-mono}
-use borrow.Author.Tests.{ltb-true, leb-true, leb-false, eqb-true, eqb-false, le-leb, lt-leb, eq-eqb, ne-eqb}
-use Rattle.bits.specs.Bits.{bit-below}
-use Rattle.bits.specs.Digits.{digit, below, expanded}
-use Rattle.bits.specs.Packed.{expanded-lt, expanded-bit, expanded-named}
-use Rattle.encoding.specs.Fields.{has}
+use borrow.Author.Tests.{leb-true, leb-false, eqb-true, eqb-false, le-leb, lt-leb, ne-eqb}
+use Rattle.bits.specs.Bits.{bit}
+use Rattle.bits.specs.Masks.{bits-below}
 use Rattle.refusal.specs.declared.Refusal.the-variants.{TruncatedMessage, BadMessage}
-use Rattle.policy.specs.declared.Sizes.{Sizes}
 use Rattle.refusal.specs.declared.Answer.{Answer}
 use Rattle.refusal.specs.declared.Answer.the-variants.{Accepted, Refused}
-use Rattle.refusal.specs.Checks.{Refuses, here, there, Passed, pass, none}
-use Rattle.refusal.specs.Laws.{refusal-law, passing-law}
-use Rattle.message.specs.declared.Fields.{Fields}
-use Rattle.message.specs.declared.Event.the-variants.{Observation, Alive}
-use Rattle.message.specs.Format.{mapOf, componentOf, fieldsOf, namedOf, packedOf, valuesOf, lengthOf, goodAlive, goodObservation, allWritten, goodFields, goodMessage, message-checks, eventIn, answerOf, withAnswer, decodeOf}
+use Rattle.refusal.specs.Checks.{Refuses, here, there}
+use Rattle.refusal.specs.Laws.{not-accepted, refusal-law}
+use Rattle.policy.specs.declared.Sizes.{Sizes}
+use Rattle.message.specs.declared.Event.{Event}
+use Rattle.message.specs.Format.{lengthOf, goodMessage, fieldsOf, message-checks, answerOf, withAnswer, decodeOf}
+use Rattle.message.specs.Encoded.{Is-event, is-observation, is-alive, Is-message}
 use Rattle.message.specs.Fixes.{Well-formed, meaningOf, Fits-event, Fits}
 use Rattle.message.specs.Proper.{Cut, early, extra, Causes}
+use Rattle.message.specs.Reads.{refuses, takes, reads, accepts}
 
 -- ---- each answer and its cause
 
@@ -38,36 +36,30 @@ module _ (z : Sizes) (s : List ℕ) where
   uncut (early h) = here (lt-leb _ _ h)
   uncut (extra h) = there (le-leb (lengthOf s) (length s) (omega arith)) (here (ne-eqb (lengthOf s) (length s) (λ e. omega arith)))
 
-  broken : Refuses (message-checks z s) BadMessage → (length s ≡ lengthOf s) × (goodMessage z s ≡ false)
-  broken (there p (there q (here g))) = (sym (eqb-true _ _ q), g)
+  pub refused-cut : (at : ℕ) → Cut s at → answerOf z s ≡ Refused (TruncatedMessage at)
+  unfolding answerOf
+  refused-cut at c = refusal-law (message-checks z s) (TruncatedMessage at) .1 (uncut c)
 
-  kept : Passed (message-checks z s) → (length s ≡ lengthOf s) × (goodMessage z s ≡ true)
-  kept (pass p (pass q (pass g none))) = (sym (eqb-true _ _ q), g)
+  -- 8 is after 7, and says that the bytes are no message
+  broken : Refuses (message-checks z s) BadMessage → length s ≡ lengthOf s
+  broken (there p (there q (here g))) = sym (eqb-true _ _ q)
 
-  module _ (e : length s ≡ lengthOf s) where
-    whole-enough : leb (lengthOf s) (length s) ≡ true
-    whole-enough = le-leb (lengthOf s) (length s) (omega arith)
-
-    none-after : eqb (lengthOf s) (length s) ≡ true
-    none-after = eq-eqb (lengthOf s) (length s) (sym e)
-
-    pub refuses : goodMessage z s ≡ false → answerOf z s ≡ Refused BadMessage
-    unfolding answerOf
-    refuses g = refusal-law (message-checks z s) BadMessage .1 (there whole-enough (there none-after (here g)))
-
-    pub takes : goodMessage z s ≡ true → answerOf z s ≡ Accepted
-    unfolding answerOf
-    takes g = passing-law (message-checks z s) .1 (pass whole-enough (pass none-after (pass g none)))
+  refused-bad : length s ≡ lengthOf s → (Is-message z s → ⊥) → answerOf z s ≡ Refused BadMessage
+  refused-bad e other = go (goodMessage z s) refl
+    where
+      go : (b : Bool) → goodMessage z s ≡ b → answerOf z s ≡ Refused BadMessage
+      go true g = absurd (other (accepts z s .0 (takes z s e g)))
+      go false g = refuses z s e g
 
   pub causes : Causes z s
   unfolding answerOf
   causes = record {
-    seven = λ at. (
-      λ e. cut at (refusal-law (message-checks z s) (TruncatedMessage at) .0 e),
-      λ c. refusal-law (message-checks z s) (TruncatedMessage at) .1 (uncut c),
+    seven = λ at. (λ e. cut at (refusal-law (message-checks z s) (TruncatedMessage at) .0 e), λ c. refused-cut at c);
+    eight = (
+      λ e. (broken (refusal-law (message-checks z s) BadMessage .0 e), λ m. not-accepted BadMessage (sym e ∙ accepts z s .1 m)),
+      λ h. refused-bad (h .0) (h .1),
     );
-    eight = (λ e. broken (refusal-law (message-checks z s) BadMessage .0 e), λ h. refuses (h .0) (h .1));
-    accepted = (λ e. kept (passing-law (message-checks z s) .0 e), λ h. takes (h .0) (h .1));
+    accepted = accepts z s;
   }
 
 -- ---- what is decoded
@@ -88,49 +80,29 @@ decoded-answer z s = go (answerOf z s)
     go Accepted = refl
     go (Refused r) = refl
 
--- value bit j belongs to the j-th named mark
-pub value-of : (s : List ℕ) (k : ℕ) → k < 32 → digit (valuesOf s) k ≡ digit (namedOf s) k * digit (packedOf s) (below k (namedOf s))
-unfolding valuesOf
-value-of s k h = expanded-bit 32 k (namedOf s) (packedOf s) h
-
 -- ---- the ranges of a well-formed message
 
-both : (a b : Bool) → (a && b) ≡ true → (a ≡ true) × (b ≡ true)
-both true true e = (refl, refl)
-both true false e = (refl, e)
-both false b e = absurd (false≢true e)
+event-fits : (z : Sizes) → z .propositions ≤ 32 → {component minute number named packed : ℕ} {e : Event} → Is-event z component minute number named packed e
+    → (component < z .components) × Fits-event z e
+event-fits z few (is-alive component minute number c t) = (c, t)
+event-fits z few (is-observation component minute number named packed values c t n marks spare v) = (
+  c,
+  (
+    t,
+    n,
+    let l : named < 2 ^ z .propositions = bits-below (z .propositions) named .1 marks in omega (arith, pow-mono few),
+    v .small,
+    marks,
+    λ i b. go i (bit named i) refl b,
+  ),
+)
+  where
+    go : (i : ℕ) (b : Bool) → bit named i ≡ b → bit values i ≡ true → bit named i ≡ true
+    go i true e f = e
+    go i false e f = absurd (true≢false (sym f ∙ v .other-value i e))
 
-module _ (z : Sizes) (few : z .propositions ≤ 32) where
-  alive-fits : (f : Fields) → goodAlive z f ≡ true → f .minute ≤ z .minutes
-  unfolding goodAlive
-  alive-fits f g = leb-true _ _ (both (eqb (f .named) 0) _ g .1)
-
-  observation-fits : (f : Fields) → goodObservation z f ≡ true → Fits-event z (Observation (f .minute) (f .number) (f .named) (expanded 32 (f .named) (f .packed)))
-  unfolding goodObservation
-  observation-fits f g =
-      let minute = both (ltb (f .minute) (z .minutes)) _ g in
-      let number = both (leb 1 (f .number)) _ (minute .1) in
-      let named : f .named < 2 ^ z .propositions = ltb-true _ _ (both (ltb (f .named) (2 ^ z .propositions)) _ (number .1) .0) in (
-        ltb-true _ _ (minute .0),
-        leb-true _ _ (number .0),
-        omega (arith, pow-mono few),
-        expanded-lt 32 (f .named) (f .packed),
-        λ i b. bit-below (z .propositions) (f .named) named i b,
-        λ i b. expanded-named 32 (f .named) (f .packed) i b,
-      )
-
-  event-fits : (f : Fields) → cond (has (f .map) 4) (goodAlive z f) (goodObservation z f) ≡ true → Fits-event z (eventIn f)
-  unfolding eventIn
-  event-fits f g = go (has (f .map) 4) g
-    where
-      go : (b : Bool) → cond b (goodAlive z f) (goodObservation z f) ≡ true → Fits-event z (cond b (Alive (f .minute) (f .number)) (Observation (f .minute) (f .number) (f .named) (expanded 32 (f .named) (f .packed))))
-      go true e = alive-fits f e
-      go false e = observation-fits f e
-
-  pub fits : (s : List ℕ) → Well-formed z s → Fits z (meaningOf s)
-  unfolding goodFields meaningOf fieldsOf
-  fits s w =
-      let map = both (ltb (mapOf s) 32) _ (causes z s .accepted .0 w .1) in
-      let fields = both (allWritten (fieldsOf s)) _ (map .1) in
-      let component = both (ltb (componentOf s) (z .components)) _ (fields .1) in
-      record { component-in = ltb-true _ _ (component .0); event-in = event-fits (fieldsOf s) (component .1) }
+pub fits : (z : Sizes) → z .propositions ≤ 32 → (s : List ℕ) → Well-formed z s → Fits z (meaningOf s)
+fits z few s w =
+    let m = accepts z s .0 w in
+    let f = event-fits z few (m .is-event) in
+    rw (reads z s m) (record { component-in = f .0; event-in = f .1 })

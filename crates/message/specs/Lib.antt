@@ -3,5 +3,6 @@ pub mod Format
 pub mod Encoded
 pub mod Fixes
 pub mod Proper
+pub mod Reads
 pub mod Laws
 pub mod Examples

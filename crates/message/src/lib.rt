@@ -15,7 +15,22 @@ ghost use lib.Dec.{ltb};
 ghost use lib.ListN.{length};
 ghost use Rattle.bits.specs.Digits.{below, expanded};
 ghost use Rattle.encoding.specs.Fields.{field8};
-ghost use Rattle.message.specs.Format.{minuteAt, numberAt, namedAt, valuesAt, valueBytes, packedAt, fieldsOf, lengthOf, measured, goodAlive, goodObservation, allWritten, goodFields, eventIn, refusedWith, decodeOf};
+ghost use Rattle.message.specs.Format.{minuteAt, numberAt, namedAt, valuesAt, valueBytes, packedAt, fieldsOf, lengthOf, measured, goodAlive, goodObservation, goodEvent, allWritten, goodFields, eventIn, refusedWith, decodeOf};
+
+// The bits of the map: which fields follow it, in their order, and whether it is an alive slip.
+const COMPONENT: u8 = 1;
+
+const MINUTE: u8 = 2;
+
+const NUMBER: u8 = 4;
+
+const NAMED: u8 = 8;
+
+const ALIVE: u8 = 16;
+// The lowest of the bits that a map has no use for (01: bits 5 to 7 are 0).
+const SPARE: u8 = 32;
+// How many propositions a map can name, a bit each.
+const NAMES: usize = 32;
 
 // What a component reports (01: an observation, or an alive slip), with its minute and its sequence number (01: count).
 pub enum Event {
@@ -59,25 +74,25 @@ pub struct Fields {
 fn minute_at(map: u8) -> usize
     ensures { λ r. ⌜ (r ≡ minuteAt map) × (r ≤ 2) ⌝ }
 {
-    1 + size_of(has(map, 1), 1)
+    1 + size_of(has(map, COMPONENT), 1)
 }
 
 fn number_at(map: u8) -> usize
     ensures { λ r. ⌜ (r ≡ numberAt map) × (r ≤ 4) ⌝ }
 {
-    minute_at(map) + size_of(has(map, 2), 2)
+    minute_at(map) + size_of(has(map, MINUTE), 2)
 }
 
 fn named_at(map: u8) -> usize
     ensures { λ r. ⌜ (r ≡ namedAt map) × (r ≤ 6) ⌝ }
 {
-    number_at(map) + size_of(has(map, 4), 2)
+    number_at(map) + size_of(has(map, NUMBER), 2)
 }
 
 fn values_at(map: u8) -> usize
     ensures { λ r. ⌜ (r ≡ valuesAt map) × (r ≤ 10) ⌝ }
 {
-    named_at(map) + size_of(has(map, 8), 4)
+    named_at(map) + size_of(has(map, NAMED), 4)
 }
 
 // How many propositions a map names.
@@ -123,10 +138,10 @@ fn fields_of(s: &[u8]) -> Fields
     ensures { λ r. ⌜ r ≡ fieldsOf (now (s .entry)) ⌝ }
 {
     let map = s[0];
-    let component = read8(s, has(map, 1), 1);
-    let minute = read16(s, has(map, 2), minute_at(map));
-    let number = read16(s, has(map, 4), number_at(map));
-    let named = read32(s, has(map, 8), named_at(map));
+    let component = read8(s, has(map, COMPONENT), 1);
+    let minute = read16(s, has(map, MINUTE), minute_at(map));
+    let number = read16(s, has(map, NUMBER), number_at(map));
+    let named = read32(s, has(map, NAMED), named_at(map));
     let packed = packed_at(s, value_bytes(named), values_at(map));
     Fields {
         map: map,
@@ -150,7 +165,7 @@ pub fn measure(s: &[u8]) -> Length
     if s.len() < values {
         return Length::EndsEarly;
     }
-    let named = read32(s, has(map, 8), named_at(map));
+    let named = read32(s, has(map, NAMED), named_at(map));
     let whole = values + value_bytes(named);
     if s.len() < whole {
         return Length::EndsEarly;
@@ -179,78 +194,63 @@ fn expand(named: u32, packed: u32) -> u32
 fn fits_below(word: u32, k: usize) -> bool
     ensures { λ r. ⌜ r ≡ ltb word (2 ^ k) ⌝ }
 {
-    if 32 <= k {
+    if NAMES <= k {
         return true;
     }
     word < 1u32 << k
 }
 
-// An alive slip's rules.
+// The rules of an alive slip.
 fn good_alive(f: Fields, sizes: Sizes) -> bool
     ensures { λ r. ⌜ r ≡ goodAlive sizes f ⌝ }
 {
-    if f.named != 0 {
-        return false;
-    }
-    f.minute as usize <= sizes.minutes
+    (f.named == 0) & (f.minute as usize <= sizes.minutes)
 }
 
-// An observation's rules.
+// The rules of an observation.
 fn good_observation(f: Fields, sizes: Sizes) -> bool
     ensures { λ r. ⌜ r ≡ goodObservation sizes f ⌝ }
 {
-    if sizes.minutes <= f.minute as usize {
-        return false;
+    let named = fits_below(f.named, sizes.propositions);
+    let packed = fits_below(f.packed, count(f.named));
+    ((f.minute as usize) < sizes.minutes) & ((1 <= f.number) & (named & packed))
+}
+
+// The rules of its kind.
+fn good_event(f: Fields, sizes: Sizes) -> bool
+    ensures { λ r. ⌜ r ≡ goodEvent sizes f ⌝ }
+{
+    if has(f.map, ALIVE) {
+        return good_alive(f, sizes);
     }
-    if f.number < 1 {
-        return false;
-    }
-    if !fits_below(f.named, sizes.propositions) {
-        return false;
-    }
-    fits_below(f.packed, count(f.named))
+    good_observation(f, sizes)
 }
 
 // No written field is 0.
 fn all_written(f: Fields) -> bool
     ensures { λ r. ⌜ r ≡ allWritten f ⌝ }
 {
-    if !is_written(has(f.map, 1), f.component as u32) {
-        return false;
-    }
-    if !is_written(has(f.map, 2), f.minute as u32) {
-        return false;
-    }
-    if !is_written(has(f.map, 4), f.number as u32) {
-        return false;
-    }
-    is_written(has(f.map, 8), f.named)
+    let component = is_written(has(f.map, COMPONENT), f.component as u32);
+    let minute = is_written(has(f.map, MINUTE), f.minute as u32);
+    let number = is_written(has(f.map, NUMBER), f.number as u32);
+    let named = is_written(has(f.map, NAMED), f.named);
+    component & (minute & (number & named))
 }
 
-// A message's rules.
-fn good_message(f: Fields, sizes: Sizes) -> bool
+// The rules of a message.
+fn good_fields(f: Fields, sizes: Sizes) -> bool
     ensures { λ r. ⌜ r ≡ goodFields sizes f ⌝ }
 {
-    if 32 <= f.map {
-        return false;
-    }
-    if !all_written(f) {
-        return false;
-    }
-    if sizes.components <= f.component as usize {
-        return false;
-    }
-    if has(f.map, 16) {
-        return good_alive(f, sizes);
-    }
-    good_observation(f, sizes)
+    let written = all_written(f);
+    let event = good_event(f, sizes);
+    (f.map < SPARE) & (written & (((f.component as usize) < sizes.components) & event))
 }
 
 // What the fields say.
-fn event_of(f: Fields) -> Event
+fn event_in(f: Fields) -> Event
     ensures { λ r. ⌜ r ≡ eventIn f ⌝ }
 {
-    if has(f.map, 16) {
+    if has(f.map, ALIVE) {
         return Event::Alive {
             minute: f.minute,
             number: f.number,
@@ -292,10 +292,10 @@ pub fn decode(s: &[u8], sizes: Sizes) -> Decoded
                 return refused(Refusal::TruncatedMessage(whole));
             }
             let f = fields_of(s);
-            if !good_message(f, sizes) {
+            if !good_fields(f, sizes) {
                 return refused(Refusal::BadMessage);
             }
-            let event = event_of(f);
+            let event = event_in(f);
             Decoded {
                 answer: Answer::Accepted,
                 component: f.component as usize,

@@ -21,7 +21,8 @@ use Rattle.policy.specs.declared.Sizes.{Sizes}
 use Rattle.policy.specs.declared.Policy.{Policy}
 use Rattle.policy.specs.Format.{policyOf, countOf, rulesUpTo}
 use Rattle.policy.specs.Proper.{formulaAt, rulesOf, Between, Cut, Misheaded, Misformed, Whole}
-use Rattle.message.specs.Format.{lengthOf, goodMessage}
+use Rattle.message.specs.Format.{lengthOf}
+use Rattle.message.specs.Encoded.{Is-message}
 use Rattle.message.specs.Fixes.{Message, Fixes-number, Fixes-fact, Well-formed, meaningOf}
 use Rattle.message.specs.Proper.{Cut as Cut-message}
 use Rattle.knowledge.specs.Trace.{Trace, Admits, Admits-all, time-point}
@@ -131,7 +132,7 @@ pub record Take-causes (s : List ℕ) (x : State) (b : List ℕ) (o : Outcome) :
       ↔ ((at ≡ 0) × Policy-passed s × Sized (policyOf s) x × (Sound (sizesOf s) (x .known) → ⊥))
   pub seven : (at : ℕ) → Refused-with (reply (o .answer)) 7 at ↔ (Passed s x × Cut-message b at)
   pub eight : (at : ℕ) → Refused-with (reply (o .answer)) 8 at
-      ↔ ((at ≡ 0) × Passed s x × (length b ≡ lengthOf b) × (goodMessage (sizesOf s) b ≡ false))
+      ↔ ((at ≡ 0) × Passed s x × (length b ≡ lengthOf b) × (Is-message (sizesOf s) b → ⊥))
   pub nine : (at : ℕ) → Refused-with (reply (o .answer)) 9 at
       ↔ ((at ≡ 0) × Passed s x × Well-formed (sizesOf s) b × (Some-trace (sizesOf s) (x .known) (meaningOf b) → ⊥))
   pub no-other : (n at : ℕ) → Refused-with (reply (o .answer)) n at → (1 ≤ n) × (n ≤ 9)

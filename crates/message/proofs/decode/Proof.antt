@@ -1,13 +1,14 @@
 -- Each return is the answer to its cause (`Laws`): the length tells the first two, the rules the last two. Assumes nothing.
-use mathlib.Core.Path.{sym, ap, subst, _∙_}
+use mathlib.Core.Path.{sym, ap, _∙_}
 use Prim.Native.Nat.{ℕ}
 use native.Mathlib.Omega.{arith}
 use borrow.Author.Tests.{not-true, not-false}
 use Rattle.refusal.specs.declared.Refusal.the-variants.{TruncatedMessage}
 use Rattle.message.specs.Format.{goodFields, refusedWith}
-use Rattle.message.specs.Laws.{refuses, takes, causes, decodes}
+use Rattle.message.specs.Reads.{refuses, takes}
+use Rattle.message.specs.Laws.{refused-cut, decodes}
 use Rattle.message.specs.Proper.{early, extra}
-use Rattle.message.proofs.Reading.{Told, told, accepted}
+use Rattle.message.proofs.Reading.{told, accepted}
 use borrow.Author.Needs.{needs}
 use Rattle.message.proofs.decode.Statement.{statement}
 use Rattle.message.proofs.decode.Tie as tie
@@ -29,49 +30,50 @@ refused-requires-2 c κs = search needs
 
 returns : tie.Need-returns
 returns c =
-    let s = c .before .before .before .before .before .before .before .args .s .now in
-    let t = subst (Told s) (sym (c .before .before .before .before .before .measure .ensures) ∙ c .before .before .before .whole .given .1) (told s) in
-    let z = c .before .before .before .before .before .before .before .args .sizes in
-    c .refused2 .ensures ∙ ap (λ (n : ℕ). refusedWith (TruncatedMessage n)) (t .0) ∙ sym (decodes z s _ (causes z s .seven _ .1 (extra (omega arith))))
+    let a = c .before .before .before .before .before .before .before .args in
+    let s = a .s .now in
+    let t = told s (c .before .before .before .before .before .measure .ensures) (c .before .before .before .whole .given .1) in
+    c .refused2 .ensures ∙ ap (λ (n : ℕ). refusedWith (TruncatedMessage n)) (t .0) ∙ sym (decodes (a .sizes) s _ (refused-cut (a .sizes) s _ (extra (omega arith))))
 
 fields-of-requires : tie.Need-fields-of-requires
 fields-of-requires c κs =
-    let s = c .before .before .before .before .before .before .args .s .now in
-    let t = subst (Told s) (sym (c .before .before .before .before .measure .ensures) ∙ c .before .before .whole .given .1) (told s) in
+    let a = c .before .before .before .before .before .before .args in
+    let s = a .s .now in
+    let t = told s (c .before .before .before .before .measure .ensures) (c .before .before .whole .given .1) in
     t .1
 
-good-message-requires : tie.Need-good-message-requires
-good-message-requires c κs = search needs
+good-fields-requires : tie.Need-good-fields-requires
+good-fields-requires c κs = search needs
 
 refused-requires-3 : tie.Need-refused-requires-3
 refused-requires-3 c κs = search needs
 
 returns-2 : tie.Need-returns-2
 returns-2 c =
-    let s = c .before .before .before .before .before .before .before .before .before .before .args .s .now in
-    let t = subst (Told s) (sym (c .before .before .before .before .before .before .before .before .measure .ensures) ∙ c .before .before .before .before .before .before .whole .given .1) (told s) in
-    let z = c .before .before .before .before .before .before .before .before .before .before .args .sizes in
-    c .refused3 .ensures ∙ sym (decodes z s _ (refuses z s (omega arith) (ap (goodFields z) (sym (c .before .before .before .fields-of .ensures)) ∙ sym (c .before .before .good-message .ensures) ∙ not-true _ (c .before .if2 .taken))))
+    let a = c .before .before .before .before .before .before .before .before .before .before .args in
+    let s = a .s .now in
+    let t = told s (c .before .before .before .before .before .before .before .before .measure .ensures) (c .before .before .before .before .before .before .whole .given .1) in
+    c .refused3 .ensures ∙ sym (decodes (a .sizes) s _ (refuses (a .sizes) s (omega arith) (ap (goodFields (a .sizes)) (sym (c .before .before .before .fields-of .ensures)) ∙ sym (c .before .before .good-fields .ensures) ∙ not-true _ (c .before .if2 .taken))))
 
-event-of-requires : tie.Need-event-of-requires
-event-of-requires c κs = search needs
+event-in-requires : tie.Need-event-in-requires
+event-in-requires c κs = search needs
 
 cast-t10 : tie.Need-cast-t10
 cast-t10 c = search needs
 
 returns-3 : tie.Need-returns-3
 returns-3 c =
-    let s = c .before .before .before .before .before .args .s .now in
-    let t = subst (Told s) (sym (c .before .before .before .measure .ensures) ∙ c .before .enum-told .given .1) (told s) in
-    let z = c .before .before .before .before .before .args .sizes in
-    c .refused .ensures ∙ sym (decodes z s _ (causes z s .seven _ .1 (early t)))
+    let a = c .before .before .before .before .before .args in
+    let s = a .s .now in
+    let t = told s (c .before .before .before .measure .ensures) (c .before .enum-told .given .1) in
+    c .refused .ensures ∙ sym (decodes (a .sizes) s _ (refused-cut (a .sizes) s _ (early t)))
 
 returns-4 : tie.Need-returns-4
 returns-4 c =
-    let s = c .before .before .before .before .before .before .before .before .before .before .before .args .s .now in
-    let t = subst (Told s) (sym (c .before .before .before .before .before .before .before .before .before .measure .ensures) ∙ c .before .before .before .before .before .before .before .whole .given .1) (told s) in
-    let z = c .before .before .before .before .before .before .before .before .before .before .before .args .sizes in
-    accepted (c .before .event-of .ensures) (c .before .before .before .before .fields-of .ensures) ∙ sym (decodes z s _ (takes z s (omega arith) (ap (goodFields z) (sym (c .before .before .before .before .fields-of .ensures)) ∙ sym (c .before .before .before .good-message .ensures) ∙ not-false _ (c .before .before .if2 .left))))
+    let a = c .before .before .before .before .before .before .before .before .before .before .before .args in
+    let s = a .s .now in
+    let t = told s (c .before .before .before .before .before .before .before .before .before .measure .ensures) (c .before .before .before .before .before .before .before .whole .given .1) in
+    accepted (c .before .event-in .ensures) (c .before .before .before .before .fields-of .ensures) ∙ sym (decodes (a .sizes) s _ (takes (a .sizes) s (omega arith) (ap (goodFields (a .sizes)) (sym (c .before .before .before .before .fields-of .ensures)) ∙ sym (c .before .before .before .good-fields .ensures) ∙ not-false _ (c .before .before .if2 .left))))
 
 pub decode-spec : {M : Type 1} → statement M
 decode-spec =
@@ -84,10 +86,10 @@ decode-spec =
     refused-requires-2
     returns
     fields-of-requires
-    good-message-requires
+    good-fields-requires
     refused-requires-3
     returns-2
-    event-of-requires
+    event-in-requires
     cast-t10
     returns-3
     returns-4)

@@ -1,7 +1,6 @@
 -- The bytes up to the values give the length, and where they are not all there the message is longer than what is there. Assumes nothing.
 use mathlib.Core.Path.{ap, _∙_}
 use native.Mathlib.Omega.{arith}
-use lib.ListN.{length}
 use Rattle.message.specs.declared.Length.the-variants.{Whole}
 use Rattle.message.proofs.Reading.{named-found, length-found, length-more, ends-early, is-whole}
 use borrow.Author.Needs.{needs}

@@ -2,8 +2,8 @@
 use mathlib.Core.Path.{sym, _∙_}
 use Rattle.message.specs.Format.{eventIn}
 use borrow.Author.Needs.{needs}
-use Rattle.message.proofs.event_of.Statement.{statement}
-use Rattle.message.proofs.event_of.Tie as tie
+use Rattle.message.proofs.event_in.Statement.{statement}
+use Rattle.message.proofs.event_in.Tie as tie
 
 has-requires : tie.Need-has-requires
 has-requires c κs = search needs
@@ -19,5 +19,5 @@ returns-2 : tie.Need-returns-2
 unfolding eventIn
 returns-2 c = simp (sym (c .before .before .has .ensures) ∙ c .before .if1 .left, c .expand .ensures)
 
-pub event-of-spec : {M : Type 1} → statement M
-event-of-spec = tie.close (tie.spec has-requires returns expand-requires returns-2)
+pub event-in-spec : {M : Type 1} → statement M
+event-in-spec = tie.close (tie.spec has-requires returns expand-requires returns-2)
