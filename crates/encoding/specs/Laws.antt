@@ -41,6 +41,14 @@ module _ (ws s : List ℕ) (at : ℕ) where
   same-start v zero h = refl
   same-start v (suc n) h = ap₂ _+_ (same-start v n (λ k l. h k (omega arith))) (as-many (has map n) (v n) (width ws n) (h n (omega arith)))
 
+  -- a layout takes the bytes that its map says
+  pub laid-extent : (v : ℕ → ℕ) → Laid ws s at v → at + extent ws map ≡ follows ws v at (length ws)
+  laid-extent v l = shift (length ws) ∙ same-start v (length ws) (l .bits)
+    where
+      shift : (n : ℕ) → at + start ws map 0 n ≡ start ws map at n
+      shift zero = refl
+      shift (suc n) = omega (arith, shift n)
+
   -- the numbers of a layout are the fields that are read
   pub laid-field : (v : ℕ → ℕ) → Laid ws s at v → (k : ℕ) → k < length ws → field ws s at k ≡ v k
   laid-field v l k h = go (has map k) refl (v k) refl

@@ -11,8 +11,7 @@ use Rattle.refusal.specs.declared.Answer.{Answer as Checked}
 use Rattle.refusal.specs.declared.Answer.the-variants as C
 use Rattle.policy.specs.Format.{answerOf as policy-answer, policyOf}
 use Rattle.policy.specs.Proper.{Proper}
-use Rattle.policy.specs.Laws.{accepted as policy-proper}
-use Rattle.policy.specs.Causes.{causes as policy-causes}
+use Rattle.policy.specs.Laws.{accepted as policy-proper, causes as policy-causes}
 use Rattle.message.specs.Format.{answerOf as message-answer}
 use Rattle.message.specs.Fixes.{Message, Fixes-number, Fixes-fact, Fits, Well-formed, meaningOf}
 use Rattle.message.specs.Laws.{fits, causes as message-causes}

@@ -1,7 +1,7 @@
 -- Each number is answered for its own cause: a refusal tells that its test failed and that those before it passed. Assumes nothing.
 use Prim.Native.Nat.{ℕ, zero, suc, _≤_, _<_}
-use mathlib.Core.Path.{_≡_, refl, sym, subst}
-use mathlib.Core.Bool.{true, false}
+use mathlib.Core.Path.{_≡_, refl, sym, subst, _∙_}
+use mathlib.Core.Bool.{Bool, true, false, true≢false}
 use mathlib.Core.Logic.{_⊎_, inl, inr, ⊎-elim}
 use mathlib.Core.List.{List, _++_}
 use native.Mathlib.Omega.{arith}
@@ -15,7 +15,9 @@ use Rattle.refusal.specs.Numbers.{numberOf}
 use Rattle.refusal.specs.Checks.{first-failed, Passed, none, pass, Refuses, here, there}
 use Rattle.refusal.specs.Laws.{refusal-law, passing-law, refused-where, passed-parts}
 use Rattle.policy.specs.Format.{countOf, fieldsAt, goodLine, offset, rulesUpTo, heading-checks, line-checks, lines-checks, closing-checks, policy-checks, answerOf}
-use Rattle.policy.specs.Proper.{Between, Headed, Fine-before, Cut, Misheaded, Misformed, Whole, Causes}
+use Rattle.policy.specs.Proper.{Headed, Some-line, Fine-before, Cut, Misheaded, Misformed, Whole, Causes}
+use Rattle.policy.specs.Encoded.{Between}
+use Rattle.policy.specs.Stands.{lineOf, stands, passes}
 use Rattle.policy.specs.Answers.{refused-line, passed-line, closing, no-heading, in-heading, in-lines, in-closing, to-the-end}
 use Rattle.policy.specs.Ranges.{in-between, between-in, not-between, outside}
 
@@ -27,28 +29,38 @@ module _ (s : List ℕ) where
   headed h (pass a (pass b (pass c (pass d none)))) =
       record {
         long = h;
-        propositions = in-between _ _ _ a;
-        components = in-between _ _ _ b;
-        minutes = in-between _ _ _ c;
-        count = in-between _ _ _ d;
+        heading = record {
+          propositions-in = in-between _ _ _ a;
+          components-in = in-between _ _ _ b;
+          minutes-in = in-between _ _ _ c;
+          lines-in = in-between _ _ _ d;
+        };
       }
 
   heading-passes : Headed s → Passed (heading-checks s)
   unfolding heading-checks
   heading-passes h =
-      pass (between-in _ _ _ (h .propositions))
-      (pass (between-in _ _ _ (h .components)) (pass (between-in _ _ _ (h .minutes)) (pass (between-in _ _ _ (h .count)) none)))
+      let r = h .heading in
+      pass (between-in _ _ _ (r .propositions-in))
+      (pass (between-in _ _ _ (r .components-in)) (pass (between-in _ _ _ (r .minutes-in)) (pass (between-in _ _ _ (r .lines-in)) none)))
 
   Fine : ℕ → Type 0
-  Fine j = (offset s (suc j) ≤ length s) × (goodLine (getD s 0 0) j (fieldsAt s (offset s j)) ≡ true)
+  Fine j = (offset s (suc j) ≤ length s) × Some-line s j
 
   fine : (i : ℕ) → Passed (line-checks s i) → Fine i
   unfolding line-checks Fine
-  fine i (pass e (pass g none)) = (leb-true _ _ e, g)
+  fine i (pass e (pass g none)) = (leb-true _ _ e, (lineOf (fieldsAt s (offset s i)), stands s (getD s 0 0) i (offset s i) g))
 
   line-passes : (i : ℕ) → Fine i → Passed (line-checks s i)
   unfolding line-checks Fine
-  line-passes i f = pass (le-leb _ _ (f .0)) (pass (f .1) none)
+  line-passes i f = pass (le-leb _ _ (f .0)) (pass (passes s (getD s 0 0) i (offset s i) (f .1 .0) (f .1 .1)) none)
+
+  no-line : (i : ℕ) → (Some-line s i → ⊥) → goodLine (getD s 0 0) i (fieldsAt s (offset s i)) ≡ false
+  no-line i n = go (goodLine (getD s 0 0) i (fieldsAt s (offset s i))) refl
+    where
+      go : (b : Bool) → goodLine (getD s 0 0) i (fieldsAt s (offset s i)) ≡ b → goodLine (getD s 0 0) i (fieldsAt s (offset s i)) ≡ false
+      go true e = absurd (n (lineOf (fieldsAt s (offset s i)), stands s (getD s 0 0) i (offset s i) e))
+      go false e = e
 
   all-fine : (n : ℕ) → Passed (lines-checks s n) → Fine-before s n
   unfolding lines-checks Fine
@@ -84,7 +96,7 @@ module _ (s : List ℕ) where
   pub misformed-refuses : (at : ℕ) → Misformed s at → Refuses (policy-checks s) (BadSubformula at)
   unfolding line-checks
   misformed-refuses at (Misformed.line i h l f e g) =
-      in-lines s (h .long) (heading-passes h) _ (refused-line s i (countOf s) _ l (lines-pass i f) (there (le-leb _ _ e) (here g)))
+      in-lines s (h .long) (heading-passes h) _ (refused-line s i (countOf s) _ l (lines-pass i f) (there (le-leb _ _ e) (here (no-line i g))))
 
   pub rules-refuse : Whole s → (Between 1 8 (rulesUpTo s (countOf s)) → ⊥) → Refuses (policy-checks s) RuleCount
   unfolding closing-checks
@@ -117,7 +129,7 @@ module _ (s : List ℕ) where
     of-line : (i : ℕ) (r : Refusal) → i < countOf s → Passed (lines-checks s i) → Refuses (line-checks s i) r → Cause r
     unfolding line-checks
     of-line i r l p (here c) = one _ (Cut.line i h l (all-fine i p) (leb-false _ _ c))
-    of-line i r l p (there e (here g)) = three _ (Misformed.line i h l (all-fine i p) (leb-true _ _ e) g)
+    of-line i r l p (there e (here g)) = three _ (Misformed.line i h l (all-fine i p) (leb-true _ _ e) (λ l. true≢false (sym (passes s (getD s 0 0) i (offset s i) (l .0) (l .1)) ∙ g)))
 
     of-lines : (n : ℕ) (r : Refusal) → n ≤ countOf s → Refuses (lines-checks s n) r → Cause r
     unfolding lines-checks
@@ -134,7 +146,7 @@ module _ (s : List ℕ) where
     unfolding closing-checks
     of-closing r p (here e) =
         let f = all-fine (countOf s) p in
-        one _ (Cut.extra h f (omega (arith, inside (countOf s) (h .count .low) f, eqb-false (offset s (countOf s)) (length s) e)))
+        one _ (Cut.extra h f (omega (arith, inside (countOf s) (h .heading .lines-in .low) f, eqb-false (offset s (countOf s)) (length s) e)))
     of-closing r p (there e (here n)) = four (record { headed = h; lines = all-fine (countOf s) p; ends = eqb-true _ _ e }) (not-between _ _ _ n)
 
   cause : (r : Refusal) → Refuses (policy-checks s) r → Cause r

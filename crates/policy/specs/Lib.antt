@@ -8,4 +8,5 @@ pub mod Laws
 pub mod Lines
 pub mod Proper
 pub mod Ranges
+pub mod Stands
 pub mod Table

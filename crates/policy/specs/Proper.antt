@@ -1,17 +1,18 @@
 -- What is true of every policy that is read, and the exact cause of each refusal of 1 to 4.
 use Prim.Native.Nat.{ℕ, suc, _≤_, _<_}
 use mathlib.Core.Path.{_≡_}
-use mathlib.Core.Bool.{true, false}
 use mathlib.Core.Logic.{_↔_}
 use mathlib.Core.List.{List}
 use lib.ListN.{getD, length}
-use Rattle.encoding.specs.Fields.{wordOf}
+use Rattle.encoding.specs.Layout.{number-at}
 use Rattle.mtl.specs.declared.Formula.{Formula}
 use Rattle.mtl.specs.Syntax.{Earlier, Proposes, Bounded}
 use Rattle.refusal.specs.declared.Refusal.the-variants.{TruncatedPolicy, BadHeading, BadSubformula, RuleCount}
 use Rattle.policy.specs.declared.Policy.{Policy}
 use Rattle.refusal.specs.declared.Answer.the-variants.{Accepted, Refused}
-use Rattle.policy.specs.Format.{noLine, ruleLines, goodLine, fieldsAt, countOf, offset, rulesUpTo, answerOf}
+use Rattle.policy.specs.Encoded.{Is-heading, Propositions-in, Components-in, Minutes-in, Lines-in, Line, Line-at}
+pub use Rattle.policy.specs.Encoded.{Between}
+use Rattle.policy.specs.Format.{noLine, ruleLines, countOf, offset, rulesUpTo, answerOf}
 
 -- the meaning of line i
 abbrev pub formulaAt : Policy → ℕ → Formula
@@ -21,16 +22,12 @@ formulaAt p i = getD (p .subformulas) i noLine .formula
 abbrev pub rulesOf : Policy → List ℕ
 rulesOf p = ruleLines (p .subformulas) (p .count)
 
-pub record Between (least most n : ℕ) : Type 0 where
-  pub low : least ≤ n
-  pub high : n ≤ most
-
 -- the ranges of a policy that was read
 pub record Proper (p : Policy) : Type 0 where
-  pub propositions : Between 1 32 (p .sizes .propositions)
-  pub components : Between 1 16 (p .sizes .components)
-  pub minutes : Between 1 1024 (p .sizes .minutes)
-  pub count : Between 1 64 (p .count)
+  pub propositions : Propositions-in (p .sizes .propositions)
+  pub components : Components-in (p .sizes .components)
+  pub minutes : Minutes-in (p .sizes .minutes)
+  pub count : Lines-in (p .count)
   pub rules : Between 1 8 (p .rules)
   pub rules-counted : length (rulesOf p) ≡ p .rules
   pub table : length (p .subformulas) ≡ 64
@@ -41,14 +38,15 @@ pub record Proper (p : Policy) : Type 0 where
 -- the five bytes are there, and each heading number is in range
 pub record Headed (s : List ℕ) : Type 0 where
   pub long : 5 ≤ length s
-  pub propositions : Between 1 32 (getD s 0 0)
-  pub components : Between 1 16 (getD s 1 0)
-  pub minutes : Between 1 1024 (wordOf (getD s 2 0) (getD s 3 0))
-  pub count : Between 1 64 (countOf s)
+  pub heading : Is-heading (getD s 0 0) (getD s 1 0) (number-at s 2 2) (countOf s)
+
+-- line i stands where it starts: some numbers and meaning that 01 allows
+abbrev pub Some-line : List ℕ → ℕ → Type 0
+Some-line s i = (l : Line) × Line-at s (getD s 0 0) i (offset s i) l
 
 -- the lines before line i have all their bytes and break no rule
 abbrev pub Fine-before : List ℕ → ℕ → Type 0
-Fine-before s i = (j : ℕ) → j < i → (offset s (suc j) ≤ length s) × (goodLine (getD s 0 0) j (fieldsAt s (offset s j)) ≡ true)
+Fine-before s i = (j : ℕ) → j < i → (offset s (suc j) ≤ length s) × Some-line s j
 
 -- 1: the heading ends early; or a line does, those before it being fine; or bytes follow the last line
 pub data Cut (s : List ℕ) : ℕ → Type 0 where
@@ -58,15 +56,14 @@ pub data Cut (s : List ℕ) : ℕ → Type 0 where
 
 -- 2: the first heading number that is out of range
 pub data Misheaded (s : List ℕ) : ℕ → Type 0 where
-  propositions : 5 ≤ length s → (Between 1 32 (getD s 0 0) → ⊥) → Misheaded s 0
-  components : 5 ≤ length s → Between 1 32 (getD s 0 0) → (Between 1 16 (getD s 1 0) → ⊥) → Misheaded s 1
-  minutes : 5 ≤ length s → Between 1 32 (getD s 0 0) → Between 1 16 (getD s 1 0) → (Between 1 1024 (wordOf (getD s 2 0) (getD s 3 0)) → ⊥) → Misheaded s 2
-  count : 5 ≤ length s → Between 1 32 (getD s 0 0) → Between 1 16 (getD s 1 0) → Between 1 1024 (wordOf (getD s 2 0) (getD s 3 0)) → (Between 1 64 (countOf s) → ⊥) → Misheaded s 4
+  propositions : 5 ≤ length s → (Propositions-in (getD s 0 0) → ⊥) → Misheaded s 0
+  components : 5 ≤ length s → Propositions-in (getD s 0 0) → (Components-in (getD s 1 0) → ⊥) → Misheaded s 1
+  minutes : 5 ≤ length s → Propositions-in (getD s 0 0) → Components-in (getD s 1 0) → (Minutes-in (number-at s 2 2) → ⊥) → Misheaded s 2
+  count : 5 ≤ length s → Propositions-in (getD s 0 0) → Components-in (getD s 1 0) → Minutes-in (number-at s 2 2) → (Lines-in (countOf s) → ⊥) → Misheaded s 4
 
 -- 3: a line that has all its bytes and breaks a rule, those before it being fine
 pub data Misformed (s : List ℕ) : ℕ → Type 0 where
-  line : (i : ℕ) → Headed s → i < countOf s → Fine-before s i → offset s (suc i) ≤ length s
-      → goodLine (getD s 0 0) i (fieldsAt s (offset s i)) ≡ false → Misformed s (offset s i)
+  line : (i : ℕ) → Headed s → i < countOf s → Fine-before s i → offset s (suc i) ≤ length s → (Some-line s i → ⊥) → Misformed s (offset s i)
 
 -- the heading and every line are fine, and nothing follows
 pub record Whole (s : List ℕ) : Type 0 where

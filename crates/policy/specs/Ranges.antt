@@ -1,21 +1,18 @@
 -- A test of a range says that the number is in it. Assumes nothing.
 use Prim.Native.Nat.{ℕ}
 use mathlib.Core.Path.{_≡_, refl}
-use mathlib.Core.Bool.{Bool, true, false, _&&_}
+use mathlib.Core.Bool.{Bool, true, false}
 use native.Mathlib.Omega.{arith}
 use borrow.Author.Tests.{leb-true, le-leb}
 use lib.Dec.{leb}
+use Rattle.mtl.specs.Folds.{both}
 use Rattle.policy.specs.Format.{within}
-use Rattle.policy.specs.Proper.{Between}
-
-pub both-true : (a b : Bool) → (a && b) ≡ true → (a ≡ true) × (b ≡ true)
-both-true true b e = (refl, e)
-both-true false b e = absurd (let z : _≡_ {A = ℕ} 0 1 = cc in omega arith)
+use Rattle.policy.specs.Encoded.{Between}
 
 module _ (least most n : ℕ) where
   pub in-between : within least most n ≡ true → Between least most n
   in-between e =
-      let p = both-true (leb least n) (leb n most) e in
+      let p = both (leb least n) (leb n most) e in
       record { low = leb-true least n (p .0); high = leb-true n most (p .1) }
 
   pub between-in : Between least most n → within least most n ≡ true
