@@ -1,4 +1,5 @@
--- 01, "The card", a second time: which numbers are a heading and a line, and how they stand in the bytes. Nothing is read or tested here.
+-- 01, "The card", a second time: which numbers are a heading and a line, and how they stand in the bytes. Nothing is read or tested here;
+-- `accepts` and `reads` of Reads say that the reader takes just these bytes and reads what stands there.
 use Prim.Native.Nat.{ℕ, zero, suc, _+_, _≤_, _<_}
 use mathlib.Core.Path.{_≡_}
 use mathlib.Core.Bool.{Bool, cond}

@@ -13,11 +13,11 @@ use Rattle.mtl.specs.declared.Formula.the-variants as F
 use Rattle.mtl.specs.Syntax.{Operands, Proposes, Bounded}
 use Rattle.policy.specs.declared.Subformula.{Subformula}
 use Rattle.refusal.specs.declared.Answer.the-variants.{Accepted, Refused}
-use Rattle.policy.specs.Format.{lineLength, fieldsAt, formulaOf, subformulaOf, subformulaAt, countOf, offset, withAnswer, answerOf, policyOf, decodeOf}
-use Rattle.policy.specs.Encoded.{Is-line, is-true, is-proposition, is-not, is-or, is-since, is-until, Line-at}
+use Rattle.policy.specs.Format.{lineLength, countOf, offset, withAnswer, answerOf, policyOf, decodeOf}
+use Rattle.policy.specs.Encoded.{Is-line, is-true, is-proposition, is-not, is-or, is-since, is-until, Is-policy}
 use Rattle.policy.specs.Proper.{Proper, formulaAt}
-use Rattle.policy.specs.Stands.{lineOf, only}
-use Rattle.policy.specs.Table.{table-length, line-at, past-lines, rules-counted}
+use Rattle.policy.specs.Reads.{accepts, reads}
+use Rattle.policy.specs.Table.{table-length, past-lines, rules-counted}
 pub use Rattle.policy.specs.Causes.{causes}
 
 -- ---- what a line of 01 means
@@ -50,34 +50,31 @@ module _ {propositions i : ℕ} where
 -- ---- the policy
 
 -- what holds of each line, and of the padding, holds all over the table
-by-lines : (s : List ℕ) (P : ℕ → Formula → Type 0) → ((i : ℕ) → P i F.True) → ((i : ℕ) → i < countOf s → P i (formulaOf (fieldsAt s (offset s i))))
+by-lines : (s : List ℕ) (p : Is-policy s) (P : ℕ → Formula → Type 0) → ((i : ℕ) → P i F.True) → ((i : ℕ) → i < countOf s → P i (p .lines i .formula))
     → (i : ℕ) → P i (formulaAt (policyOf s) i)
-unfolding policyOf subformulaAt subformulaOf
-by-lines s P pad line i = go (decLt i (countOf s))
+unfolding policyOf
+by-lines s p P pad line i = go (decLt i (countOf s))
   where
     go : Dec (i < countOf s) → P i (formulaAt (policyOf s) i)
-    go (yes h) = subst (λ (x : Subformula). P i (x .formula)) (sym (line-at s (countOf s) i h)) (line i h)
+    go (yes h) = subst (λ (x : Subformula). P i (x .formula)) (sym (reads s p i h)) (line i h)
     go (no h) = subst (λ (x : Subformula). P i (x .formula)) (sym (past-lines s (countOf s) i (omega arith))) (pad i)
 
 pub accepted : (s : List ℕ) → answerOf s ≡ Accepted → Proper (policyOf s)
 unfolding policyOf
 accepted s e =
-    let p = causes s .accepted .0 e in
-    let w = p .0 in
-    let h = w .headed .heading in
-    let line : (i : ℕ) → i < countOf s → Line-at s (getD s 0 0) i (offset s i) (lineOf (fieldsAt s (offset s i))) =
-    λ i l. let x = w .lines i l .1 in subst (Line-at s (getD s 0 0) i (offset s i)) (only s _ i (offset s i) (x .0) (x .1)) (x .1) in
+    let p = accepts s .0 e in
+    let h = p .heading in
     record {
       propositions = h .propositions-in;
       components = h .components-in;
       minutes = h .minutes-in;
       count = h .lines-in;
-      rules = p .1;
+      rules = causes s .accepted .0 e .1;
       rules-counted = rules-counted s (countOf s) (countOf s) (omega arith);
       table = table-length s (countOf s) (h .lines-in .high);
-      earlier = by-lines s (λ i x. Operands (λ j. j < i) x) (λ i. tt) (λ i l. earlier-operands _ _ _ _ _ _ (line i l .is-line));
-      proposes = by-lines s (λ i x. Proposes (getD s 0 0) x) (λ i. tt) (λ i l. its-proposition _ _ _ _ _ _ (line i l .is-line));
-      bounded = by-lines s (λ i x. Bounded 1023 x) (λ i. tt) (λ i l. its-interval _ _ _ _ _ _ (line i l .is-line));
+      earlier = by-lines s p (λ i x. Operands (λ j. j < i) x) (λ i. tt) (λ i l. earlier-operands _ _ _ _ _ _ (p .line i l .is-line));
+      proposes = by-lines s p (λ i x. Proposes (getD s 0 0) x) (λ i. tt) (λ i l. its-proposition _ _ _ _ _ _ (p .line i l .is-line));
+      bounded = by-lines s p (λ i x. Bounded 1023 x) (λ i. tt) (λ i l. its-interval _ _ _ _ _ _ (p .line i l .is-line));
     }
 
 -- ---- its length

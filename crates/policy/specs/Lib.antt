@@ -8,5 +8,7 @@ pub mod Laws
 pub mod Lines
 pub mod Proper
 pub mod Ranges
+pub mod Reads
+pub mod Rules
 pub mod Stands
 pub mod Table
