@@ -14,40 +14,12 @@ use Rattle.mtl.specs.Syntax.{Operands, Proposes, Bounded}
 use Rattle.policy.specs.declared.Subformula.{Subformula}
 use Rattle.refusal.specs.declared.Answer.the-variants.{Accepted, Refused}
 use Rattle.policy.specs.Format.{lineLength, countOf, offset, withAnswer, answerOf, policyOf, decodeOf}
-use Rattle.policy.specs.Encoded.{Is-line, is-true, is-proposition, is-not, is-or, is-since, is-until, Is-policy}
+use Rattle.policy.specs.Encoded.{Is-policy}
+use Rattle.policy.specs.Kinds.{earlier-operands, its-proposition, its-interval}
 use Rattle.policy.specs.Proper.{Proper, formulaAt}
 use Rattle.policy.specs.Reads.{accepts, reads}
 use Rattle.policy.specs.Table.{table-length, past-lines, rules-counted}
 pub use Rattle.policy.specs.Causes.{causes}
-
--- ---- what a line of 01 means
-
-module _ {propositions i : ℕ} where
-  earlier-operands : (k a b l u : ℕ) (x : Formula) → Is-line propositions i k a b l u x → Operands (λ j. j < i) x
-  earlier-operands k a b l u x is-true = tt
-  earlier-operands k a b l u x (is-proposition _ h) = tt
-  earlier-operands k a b l u x (is-not _ h) = h
-  earlier-operands k a b l u x (is-or _ _ h g) = (h, g)
-  earlier-operands k a b l u x (is-since _ _ _ _ h g o v) = (h, g)
-  earlier-operands k a b l u x (is-until _ _ _ _ h g o v) = (h, g)
-
-  its-proposition : (k a b l u : ℕ) (x : Formula) → Is-line propositions i k a b l u x → Proposes propositions x
-  its-proposition k a b l u x is-true = tt
-  its-proposition k a b l u x (is-proposition _ h) = h
-  its-proposition k a b l u x (is-not _ h) = tt
-  its-proposition k a b l u x (is-or _ _ h g) = tt
-  its-proposition k a b l u x (is-since _ _ _ _ h g o v) = tt
-  its-proposition k a b l u x (is-until _ _ _ _ h g o v) = tt
-
-  its-interval : (k a b l u : ℕ) (x : Formula) → Is-line propositions i k a b l u x → Bounded 1023 x
-  its-interval k a b l u x is-true = tt
-  its-interval k a b l u x (is-proposition _ h) = tt
-  its-interval k a b l u x (is-not _ h) = tt
-  its-interval k a b l u x (is-or _ _ h g) = tt
-  its-interval k a b l u x (is-since _ _ _ _ h g o v) = (o, v)
-  its-interval k a b l u x (is-until _ _ _ _ h g o v) = (o, v)
-
--- ---- the policy
 
 -- what holds of each line, and of the padding, holds all over the table
 by-lines : (s : List ℕ) (p : Is-policy s) (P : ℕ → Formula → Type 0) → ((i : ℕ) → P i F.True) → ((i : ℕ) → i < countOf s → P i (p .lines i .formula))

@@ -1,9 +1,9 @@
 -- The policy: its format, and the laws of what is read.
-pub mod Answers
 pub mod Causes
 pub mod Chained
 pub mod Encoded
 pub mod Format
+pub mod Kinds
 pub mod Laws
 pub mod Lines
 pub mod Proper

@@ -7,6 +7,7 @@ use lib.ListN.{getD, length}
 use Rattle.encoding.specs.Layout.{number-at}
 use Rattle.mtl.specs.declared.Formula.{Formula}
 use Rattle.mtl.specs.Syntax.{Earlier, Proposes, Bounded}
+use Rattle.refusal.specs.declared.Refusal.{Refusal}
 use Rattle.refusal.specs.declared.Refusal.the-variants.{TruncatedPolicy, BadHeading, BadSubformula, RuleCount}
 use Rattle.policy.specs.declared.Policy.{Policy}
 use Rattle.refusal.specs.declared.Answer.the-variants.{Accepted, Refused}
@@ -44,32 +45,43 @@ pub record Headed (s : List ℕ) : Type 0 where
 abbrev pub Some-line : List ℕ → ℕ → Type 0
 Some-line s i = (l : Line) × Line-at s (getD s 0 0) i (offset s i) l
 
--- the lines before line i have all their bytes and break no rule
+-- line i has all its bytes and breaks no rule
+abbrev pub Fine : List ℕ → ℕ → Type 0
+Fine s i = (offset s (suc i) ≤ length s) × Some-line s i
+
 abbrev pub Fine-before : List ℕ → ℕ → Type 0
-Fine-before s i = (j : ℕ) → j < i → (offset s (suc j) ≤ length s) × Some-line s j
-
--- 1: the heading ends early; or a line does, those before it being fine; or bytes follow the last line
-pub data Cut (s : List ℕ) : ℕ → Type 0 where
-  heading : length s < 5 → Cut s (length s)
-  line : (i : ℕ) → Headed s → i < countOf s → Fine-before s i → length s < offset s (suc i) → Cut s (length s)
-  extra : Headed s → Fine-before s (countOf s) → offset s (countOf s) < length s → Cut s (offset s (countOf s))
-
--- 2: the first heading number that is out of range
-pub data Misheaded (s : List ℕ) : ℕ → Type 0 where
-  propositions : 5 ≤ length s → (Propositions-in (getD s 0 0) → ⊥) → Misheaded s 0
-  components : 5 ≤ length s → Propositions-in (getD s 0 0) → (Components-in (getD s 1 0) → ⊥) → Misheaded s 1
-  minutes : 5 ≤ length s → Propositions-in (getD s 0 0) → Components-in (getD s 1 0) → (Minutes-in (number-at s 2 2) → ⊥) → Misheaded s 2
-  count : 5 ≤ length s → Propositions-in (getD s 0 0) → Components-in (getD s 1 0) → Minutes-in (number-at s 2 2) → (Lines-in (countOf s) → ⊥) → Misheaded s 4
-
--- 3: a line that has all its bytes and breaks a rule, those before it being fine
-pub data Misformed (s : List ℕ) : ℕ → Type 0 where
-  line : (i : ℕ) → Headed s → i < countOf s → Fine-before s i → offset s (suc i) ≤ length s → (Some-line s i → ⊥) → Misformed s (offset s i)
+Fine-before s i = (j : ℕ) → j < i → Fine s j
 
 -- the heading and every line are fine, and nothing follows
 pub record Whole (s : List ℕ) : Type 0 where
   pub headed : Headed s
   pub lines : Fine-before s (countOf s)
   pub ends : offset s (countOf s) ≡ length s
+
+-- Why the bytes are refused, by the refusal: its place is that of the table
+pub data Cause (s : List ℕ) : Refusal → Type 0 where
+  -- 1: the heading ends early; or a line does, those before it being fine; or bytes follow the last line
+  heading-cut : length s < 5 → Cause s (TruncatedPolicy (length s))
+  line-cut : (i : ℕ) → Headed s → i < countOf s → Fine-before s i → length s < offset s (suc i) → Cause s (TruncatedPolicy (length s))
+  bytes-follow : Headed s → Fine-before s (countOf s) → offset s (countOf s) < length s → Cause s (TruncatedPolicy (offset s (countOf s)))
+  -- 2: the first heading number that is out of range
+  propositions-out : 5 ≤ length s → (Propositions-in (getD s 0 0) → ⊥) → Cause s (BadHeading 0)
+  components-out : 5 ≤ length s → Propositions-in (getD s 0 0) → (Components-in (getD s 1 0) → ⊥) → Cause s (BadHeading 1)
+  minutes-out : 5 ≤ length s → Propositions-in (getD s 0 0) → Components-in (getD s 1 0) → (Minutes-in (number-at s 2 2) → ⊥) → Cause s (BadHeading 2)
+  lines-out : 5 ≤ length s → Propositions-in (getD s 0 0) → Components-in (getD s 1 0) → Minutes-in (number-at s 2 2) → (Lines-in (countOf s) → ⊥) → Cause s (BadHeading 4)
+  -- 3: a line that has all its bytes and breaks a rule, those before it being fine
+  line-bad : (i : ℕ) → Headed s → i < countOf s → Fine-before s i → offset s (suc i) ≤ length s → (Some-line s i → ⊥) → Cause s (BadSubformula (offset s i))
+  -- 4: no rule, or more than 8
+  rules-out : Whole s → (Between 1 8 (rulesUpTo s (countOf s)) → ⊥) → Cause s RuleCount
+
+abbrev pub Cut : List ℕ → ℕ → Type 0
+Cut s at = Cause s (TruncatedPolicy at)
+
+abbrev pub Misheaded : List ℕ → ℕ → Type 0
+Misheaded s at = Cause s (BadHeading at)
+
+abbrev pub Misformed : List ℕ → ℕ → Type 0
+Misformed s at = Cause s (BadSubformula at)
 
 -- each number is answered exactly for its own cause
 pub record Causes (s : List ℕ) : Type 0 where

@@ -1,82 +1,38 @@
 -- A line passes its tests exactly when one of 01's lines stands there, and that is the line that is read. Assumes nothing.
-use Prim.Native.Nat.{ℕ, zero, suc, _≤_, _<_}
+use Prim.Native.Nat.{ℕ, zero, suc, _<_}
 use mathlib.Core.Path.{_≡_, refl, sym, subst, fun-ext, _∙_}
-use mathlib.Core.Bool.{Bool, true, false, not, cond, _||_, _&&_, true≢false}
+use mathlib.Core.Bool.{Bool, true, false, not, cond, true≢false}
 use mathlib.Core.Logic.{_↔_, _≢_}
 use mathlib.Core.List.{List}
 use native.Mathlib.Omega.{arith}
-use borrow.Author.Tests.{ltb-true, lt-ltb, leb-true, le-leb}
-use lib.Dec.{ltb, leb}
+use borrow.Author.Tests.{ltb-true, lt-ltb, leb-true, le-leb, ne-eqb}
+use lib.Dec.{eqb, ltb, leb}
 use lib.ListN.{getD, length}
 use Rattle.encoding.specs.Fields.{has, written}
-use Rattle.encoding.specs.Layout.{start, number-at, field, Laid}
+use Rattle.encoding.specs.Layout.{field, Laid}
 use Rattle.encoding.specs.Laws.{is-written, laid-field, fields-laid}
 use Rattle.mtl.specs.Folds.{both, pair}
-use Rattle.mtl.specs.declared.Formula.{Formula}
 use Rattle.policy.specs.declared.Fields.{Fields}
-use Rattle.policy.specs.Encoded.{Is-line, is-true, is-proposition, is-not, is-or, is-since, is-until, Line, widths, numbers, Line-at}
-use Rattle.policy.specs.Format.{fieldsAt, kinds, kindOf, allowed, operandsGood, keepsKind, goodLine, meaning, formulaOf}
+use Rattle.policy.specs.declared.Kind.{Kind}
+use Rattle.policy.specs.Encoded.{Line, widths, numbers, Line-at}
+use Rattle.policy.specs.Format.{fieldsAt, kinds, kindOf, allowed, keepsKind, goodLine, formulaOf}
+use Rattle.policy.specs.Kinds.{zeros, Keeps, is-a-line, keeps}
 
--- ---- the table of kinds
+-- a bit that doesn't stand is a number that is 0
+absent : (b : Bool) (n : ℕ) → (b ≡ true) ↔ (n ≢ 0) → not b ≡ eqb n 0
+absent true n l = sym (ne-eqb n 0 (l .0 refl))
+absent false zero l = refl
+absent false (suc n) l = absurd (true≢false (sym (l .1 (omega arith))))
 
--- a field that the kind doesn't allow is 0
-unnamed : (may b : Bool) (n : ℕ) → (b ≡ true) ↔ (n ≢ 0) → (may || not b) ≡ true → may ≡ false → n ≡ 0
-unnamed true b n l e f = absurd (true≢false f)
-unnamed false true n l e f = absurd (true≢false (sym e))
-unnamed false false zero l e f = refl
-unnamed false false (suc n) l e f = absurd (true≢false (sym (l .1 (omega arith))))
-
-named : (may b : Bool) (n : ℕ) → (b ≡ true) ↔ (n ≢ 0) → (may ≡ false → n ≡ 0) → (may || not b) ≡ true
-named true b n l h = refl
-named false true n l h = absurd (l .0 refl (h refl))
-named false false n l h = refl
-
--- the numbers keep the row of their kind
-record Keeps (propositions i kind a b lower upper : ℕ) (x : Formula) : Type 0 where
-  pub known : kind < length kinds
-  pub no-first : kindOf kind .first ≡ false → a ≡ 0
-  pub no-second : kindOf kind .second ≡ false → b ≡ 0
-  pub no-lower : kindOf kind .lower ≡ false → lower ≡ 0
-  pub no-upper : kindOf kind .upper ≡ false → upper ≡ 0
-  pub operands : operandsGood (kindOf kind .operands) propositions i a b ≡ true
-  pub ordered : lower ≤ upper
-  pub bounded : upper ≤ 1023
-  pub means : x ≡ meaning kind a b lower upper
-
-module _ {m i : ℕ} where
-  is-a-line : (kind a b lower upper : ℕ) (x : Formula) → Keeps m i kind a b lower upper x → Is-line m i kind a b lower upper x
-  unfolding meaning
-  is-a-line zero a b l u x k = rw (k .means, k .no-first refl, k .no-second refl, k .no-lower refl, k .no-upper refl) is-true
-  is-a-line (suc zero) a b l u x k =
-      rw (k .means, k .no-second refl, k .no-lower refl, k .no-upper refl) (is-proposition a (ltb-true a m (k .operands)))
-  is-a-line (suc (suc zero)) a b l u x k = rw (k .means, k .no-second refl, k .no-lower refl, k .no-upper refl) (is-not a (ltb-true a i (k .operands)))
-  is-a-line (suc (suc (suc zero))) a b l u x k =
-      let o = both (ltb a i) (ltb b i) (k .operands) in
-      rw (k .means, k .no-lower refl, k .no-upper refl) (is-or a b (ltb-true a i (o .0)) (ltb-true b i (o .1)))
-  is-a-line (suc (suc (suc (suc zero)))) a b l u x k =
-      let o = both (ltb a i) (ltb b i) (k .operands) in
-      rw (k .means) (is-since a b l u (ltb-true a i (o .0)) (ltb-true b i (o .1)) (k .ordered) (k .bounded))
-  is-a-line (suc (suc (suc (suc (suc zero))))) a b l u x k =
-      let o = both (ltb a i) (ltb b i) (k .operands) in
-      rw (k .means) (is-until a b l u (ltb-true a i (o .0)) (ltb-true b i (o .1)) (k .ordered) (k .bounded))
-  is-a-line (suc (suc (suc (suc (suc (suc kind)))))) a b l u x k = absurd (omega (arith, k .known))
-
-  keeps : (kind a b lower upper : ℕ) (x : Formula) → Is-line m i kind a b lower upper x → Keeps m i kind a b lower upper x
-  unfolding meaning
-  keeps kind a b l u x is-true =
-      record { known = omega arith; no-first = λ e. refl; no-second = λ e. refl; no-lower = λ e. refl; no-upper = λ e. refl; operands = refl; ordered = omega arith; bounded = omega arith; means = refl }
-  keeps kind a b l u x (is-proposition _ h) =
-      record { known = omega arith; no-first = λ e. absurd (true≢false e); no-second = λ e. refl; no-lower = λ e. refl; no-upper = λ e. refl; operands = lt-ltb _ _ h; ordered = omega arith; bounded = omega arith; means = refl }
-  keeps kind a b l u x (is-not _ h) =
-      record { known = omega arith; no-first = λ e. absurd (true≢false e); no-second = λ e. refl; no-lower = λ e. refl; no-upper = λ e. refl; operands = lt-ltb _ _ h; ordered = omega arith; bounded = omega arith; means = refl }
-  keeps kind a b l u x (is-or _ _ h g) =
-      record { known = omega arith; no-first = λ e. absurd (true≢false e); no-second = λ e. absurd (true≢false e); no-lower = λ e. refl; no-upper = λ e. refl; operands = pair (lt-ltb _ _ h) (lt-ltb _ _ g); ordered = omega arith; bounded = omega arith; means = refl }
-  keeps kind a b l u x (is-since _ _ _ _ h g o v) =
-      record { known = omega arith; no-first = λ e. absurd (true≢false e); no-second = λ e. absurd (true≢false e); no-lower = λ e. absurd (true≢false e); no-upper = λ e. absurd (true≢false e); operands = pair (lt-ltb _ _ h) (lt-ltb _ _ g); ordered = o; bounded = v; means = refl }
-  keeps kind a b l u x (is-until _ _ _ _ h g o v) =
-      record { known = omega arith; no-first = λ e. absurd (true≢false e); no-second = λ e. absurd (true≢false e); no-lower = λ e. absurd (true≢false e); no-upper = λ e. absurd (true≢false e); operands = pair (lt-ltb _ _ h) (lt-ltb _ _ g); ordered = o; bounded = v; means = refl }
-
--- ---- the line at a place
+-- so the map names only fields that the kind allows exactly where the numbers of the others are 0
+names : (k : Kind) (map : ℕ) (v : ℕ → ℕ) → ((j : ℕ) → j < 5 → (has map j ≡ true) ↔ (v j ≢ 0)) → allowed k map ≡ zeros k (v 1) (v 2) (v 3) (v 4)
+names k map v bits =
+    rw (
+      absent (has map 1) (v 1) (bits 1 (omega arith)),
+      absent (has map 2) (v 2) (bits 2 (omega arith)),
+      absent (has map 3) (v 3) (bits 3 (omega arith)),
+      absent (has map 4) (v 4) (bits 4 (omega arith)),
+    )
 
 -- what holds of each of the five fields
 five : (P : ℕ → Type 0) → P 0 → P 1 → P 2 → P 3 → P 4 → (k : ℕ) → k < 5 → P k
@@ -111,7 +67,7 @@ module _ (s : List ℕ) (m i at : ℕ) where
       no-field false = refl
 
   -- a line that passes its tests stands there
-  pub stands : goodLine m i (fieldsAt s at) ≡ true → Line-at s m i at (lineOf (fieldsAt s at))
+  stands : goodLine m i (fieldsAt s at) ≡ true → Line-at s m i at (lineOf (fieldsAt s at))
   unfolding goodLine keepsKind fieldsAt formulaOf
   stands good =
       let f = fieldsAt s at in
@@ -125,18 +81,12 @@ module _ (s : List ℕ) (m i at : ℕ) where
       let o = both (leb (f .lower) (f .upper)) _ (h .1) in
       let k = both (ltb (f .kind) (length kinds)) _ (h .0) in
       let n = both (allowed (kindOf (f .kind)) map) _ (k .1) in
-      let p = both (kindOf (f .kind) .first || not (has map 1)) _ (n .0) in
-      let q = both (kindOf (f .kind) .second || not (has map 2)) _ (p .1) in
-      let r = both (kindOf (f .kind) .lower || not (has map 3)) _ (q .1) in
       let laid = fields-laid widths s at (five (λ j. written (has map j) (field widths s at j) ≡ true) (b .0) (c .0) (d .0) (e .0) (g .0)) in
       record {
         is-line = is-a-line (f .kind) (f .first) (f .second) (f .lower) (f .upper) (formulaOf f)
             (record {
               known = ltb-true _ _ (k .0);
-              no-first = unnamed _ _ _ (laid .bits 1 (omega arith)) (p .0);
-              no-second = unnamed _ _ _ (laid .bits 2 (omega arith)) (q .0);
-              no-lower = unnamed _ _ _ (laid .bits 3 (omega arith)) (r .0);
-              no-upper = unnamed _ _ _ (laid .bits 4 (omega arith)) (r .1);
+              zero-else = sym (names (kindOf (f .kind)) map (field widths s at) (laid .bits)) ∙ n .0;
               operands = n .1;
               ordered = leb-true _ _ (o .0);
               bounded = leb-true _ _ (o .1);
@@ -158,7 +108,7 @@ module _ (s : List ℕ) (m i at : ℕ) where
         rw (read 0 (omega arith), read 1 (omega arith), read 2 (omega arith), read 3 (omega arith), read 4 (omega arith))
 
     -- a line that stands there passes its tests
-    pub passes : goodLine m i (fieldsAt s at) ≡ true
+    passes : goodLine m i (fieldsAt s at) ≡ true
     unfolding goodLine keepsKind
     passes =
         let bits = t .laid .bits in
@@ -173,9 +123,7 @@ module _ (s : List ℕ) (m i at : ℕ) where
         (pair
         (pair (lt-ltb _ _ (kept .known))
         (pair
-        (pair (named _ _ _ (bits 1 (omega arith)) (kept .no-first))
-        (pair (named _ _ _ (bits 2 (omega arith)) (kept .no-second))
-        (pair (named _ _ _ (bits 3 (omega arith)) (kept .no-lower)) (named _ _ _ (bits 4 (omega arith)) (kept .no-upper)))))
+        (names (kindOf (l .kind)) map (numbers l) bits ∙ kept .zero-else)
         (kept .operands)))
         (pair (le-leb _ _ (kept .ordered)) (le-leb _ _ (kept .bounded))))))))))
 
@@ -183,3 +131,6 @@ module _ (s : List ℕ) (m i at : ℕ) where
     pub only : l ≡ lineOf (fieldsAt s at)
     unfolding formulaOf
     only = rw (its-fields, kept .means, t .rule)
+
+  pub line-law : (goodLine m i (fieldsAt s at) ≡ true) ↔ ((l : Line) × Line-at s m i at l)
+  line-law = (λ e. (lineOf (fieldsAt s at), stands e), λ l. passes (l .0) (l .1))
