@@ -114,51 +114,53 @@ struct Kind {
     operands: Operands,
 }
 
+// True.
+const CONSTANT: Kind = Kind {
+    first: false,
+    second: false,
+    lower: false,
+    upper: false,
+    operands: Operands::Nothing,
+};
+
+// A proposition.
+const ATOM: Kind = Kind {
+    first: true,
+    second: false,
+    lower: false,
+    upper: false,
+    operands: Operands::Proposition,
+};
+
+// Of one line.
+const UNARY: Kind = Kind {
+    first: true,
+    second: false,
+    lower: false,
+    upper: false,
+    operands: Operands::Line,
+};
+
+// Of two lines.
+const BINARY: Kind = Kind {
+    first: true,
+    second: true,
+    lower: false,
+    upper: false,
+    operands: Operands::TwoLines,
+};
+
+// Of two lines and an interval.
+const TEMPORAL: Kind = Kind {
+    first: true,
+    second: true,
+    lower: true,
+    upper: true,
+    operands: Operands::TwoLines,
+};
+
 // The table of kinds, a row a kind.
-const KINDS: [Kind; 6] = [
-    Kind {
-        first: false,
-        second: false,
-        lower: false,
-        upper: false,
-        operands: Operands::Nothing,
-    },
-    Kind {
-        first: true,
-        second: false,
-        lower: false,
-        upper: false,
-        operands: Operands::Proposition,
-    },
-    Kind {
-        first: true,
-        second: false,
-        lower: false,
-        upper: false,
-        operands: Operands::Line,
-    },
-    Kind {
-        first: true,
-        second: true,
-        lower: false,
-        upper: false,
-        operands: Operands::TwoLines,
-    },
-    Kind {
-        first: true,
-        second: true,
-        lower: true,
-        upper: true,
-        operands: Operands::TwoLines,
-    },
-    Kind {
-        first: true,
-        second: true,
-        lower: true,
-        upper: true,
-        operands: Operands::TwoLines,
-    },
-];
+const KINDS: [Kind; 6] = [CONSTANT, ATOM, UNARY, BINARY, TEMPORAL, TEMPORAL];
 
 // The lines read: the answer, and where it is Accepted the place after them, how many are rules, and the table.
 struct Scanned {
