@@ -1,7 +1,7 @@
 -- "Multi-byte fields are little-endian, unsigned." "A bit map, then only the fields whose bit stands." "An absent field is 0, and a
 -- written field is not 0."
 use Prim.Native.Nat.{ℕ, _+_, _*_, _/_, _%_, _^_}
-use mathlib.Core.Bool.{Bool, true, false, not, cond, _||_}
+use mathlib.Core.Bool.{Bool, not, cond, _||_}
 use mathlib.Core.List.{List}
 use lib.ListN.{getD}
 use lib.Dec.{eqb}
