@@ -8,7 +8,7 @@ use Rattle.bits.specs.Digits.{digit, below, expanded}
 use Rattle.bits.specs.Bits.{bit}
 use Rattle.refusal.specs.declared.Refusal.the-variants.{BadMessage, Conflict}
 use Rattle.mtl.specs.Reading.{since, until, deep, reading}
-use Rattle.policy.specs.Format.{lineLength, fieldsAt, allowed, operandsGood, goodLine, meaning, formulaOf, subformulaOf, subformulaAt, heading-checks, offset, line-checks, lines-checks, linesUpTo, subformulasOf, ruleLines, rulesUpTo, closing-checks, policy-checks, answerOf as policy-answer, policyOf}
+use Rattle.policy.specs.Format.{lineLength, fieldsAt, keepsKind, goodLine, meaning, formulaOf, subformulaOf, subformulaAt, heading-checks, offset, line-checks, lines-checks, linesUpTo, subformulasOf, ruleLines, rulesUpTo, closing-checks, policy-checks, answerOf as policy-answer, policyOf}
 use Rattle.message.specs.Format.{componentOf, minuteOf, numberOf, namedOf, packedOf, valuesOf, lengthOf, fieldsOf, goodAlive, goodObservation, allWritten, goodFields, answerOf as message-answer, eventIn}
 use Rattle.message.specs.Fixes.{meaningOf}
 use Rattle.knowledge.specs.Knowledge.{follow, steady, rises, level, word-sound, words-agree, noted, valued, number, is-point, is-none, sound, fresh, stored, free, admits}
@@ -87,7 +87,7 @@ pub record Small-shift (x y : State) : Type 0 where
 -- what is assumed of x and y below is so for any buffers of the cards' sizes: both openings are done
 pub opens-sized : (n f v d : List ℕ) → length n ≡ 5 → length f ≡ 8 → length v ≡ 12 → length d ≡ 4
     → (open-state K (lent n f v d) .answer ≡ Done) × (open-state U (lent n f v d) .answer ≡ Done)
-unfolding open-state lineLength fieldsAt allowed operandsGood goodLine meaning formulaOf subformulaOf subformulaAt heading-checks offset line-checks lines-checks linesUpTo subformulasOf ruleLines rulesUpTo closing-checks policy-checks policy-answer policyOf sizes-fit
+unfolding open-state lineLength fieldsAt keepsKind goodLine meaning formulaOf subformulaOf subformulaAt heading-checks offset line-checks lines-checks linesUpTo subformulasOf ruleLines rulesUpTo closing-checks policy-checks policy-answer policyOf sizes-fit
 opens-sized n f v d a b c e = (rw (a, b, c, e) refl, rw (a, b, c, e) refl)
 
 -- each case, from the opened state on
@@ -102,7 +102,7 @@ module _ (s : List ℕ) (x : State) (e : open-state s x .state ≡ opened (polic
   reply-from bs b = ap (λ (y : State). receive s (run s y (map Receive bs)) b .answer) e
 
 pub small-shift : (x y : State) → open-state K x .answer ≡ Done → open-state U y .answer ≡ Done → Small-shift x y
-unfolding digit below expanded bit since until deep reading lineLength fieldsAt allowed operandsGood goodLine meaning formulaOf subformulaOf subformulaAt heading-checks offset line-checks lines-checks linesUpTo subformulasOf ruleLines rulesUpTo closing-checks policy-checks policy-answer policyOf componentOf minuteOf numberOf namedOf packedOf valuesOf lengthOf fieldsOf goodAlive goodObservation allWritten goodFields message-answer eventIn meaningOf noted valued number is-point is-none sound fresh stored free admits valuation-of verdicts-of standing sizes-fit opened receive follow steady rises level word-sound words-agree
+unfolding digit below expanded bit since until deep reading lineLength fieldsAt keepsKind goodLine meaning formulaOf subformulaOf subformulaAt heading-checks offset line-checks lines-checks linesUpTo subformulasOf ruleLines rulesUpTo closing-checks policy-checks policy-answer policyOf componentOf minuteOf numberOf namedOf packedOf valuesOf lengthOf fieldsOf goodAlive goodObservation allWritten goodFields message-answer eventIn meaningOf noted valued number is-point is-none sound fresh stored free admits valuation-of verdicts-of standing sizes-fit opened receive follow steady rises level word-sound words-agree
 small-shift x y d e =
     let k : open-state K x .state ≡ opened (policyOf K) = opens K x d .state in
     let u : open-state U y .state ≡ opened (policyOf U) = opens U y e .state in

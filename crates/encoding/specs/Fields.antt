@@ -1,7 +1,7 @@
 -- "Multi-byte fields are little-endian, unsigned." "A bit map, then only the fields whose bit stands." "An absent field is 0, and a
 -- written field is not 0."
 use Prim.Native.Nat.{ℕ, _+_, _*_, _/_, _%_, _^_}
-use mathlib.Core.Bool.{Bool, true, false, not, cond, _||_}
+use mathlib.Core.Bool.{Bool, not, cond, _||_}
 use mathlib.Core.List.{List}
 use lib.ListN.{getD}
 use lib.Dec.{eqb}
@@ -21,7 +21,7 @@ wordOf a b = a + b * 256
 abbrev pub longOf : ℕ → ℕ → ℕ → ℕ → ℕ
 longOf a b c d = wordOf a b + wordOf c d * 65536
 
--- the field of 1, 2 or 4 bytes that starts at a place; an absent field is 0
+-- the field of 1, 2 or 4 bytes that starts at a place, as the message's format still writes it; `field` of Layout says it for any format
 abbrev pub field8 : List ℕ → Bool → ℕ → ℕ
 field8 s present at = cond present (getD s at 0) 0
 

@@ -1,8 +1,8 @@
 -- Fields that are read and pass "a written field is not 0" stand as the format lays them out, and only those do.
-use Prim.Native.Nat.{ℕ, zero, suc, _+_, _≤_, _<_}
+use Prim.Native.Nat.{ℕ, zero, suc, _+_, _<_}
 use native.Mathlib.Omega.{arith}
 use mathlib.Core.Path.{_≡_, refl, sym, ap, ap₂, _∙_}
-use mathlib.Core.Bool.{Bool, true, false, not, cond, _||_, true≢false}
+use mathlib.Core.Bool.{Bool, true, false, cond, true≢false}
 use mathlib.Core.Logic.{_↔_, _≢_}
 use mathlib.Core.List.{List}
 use borrow.Author.Tests.{ne-eqb}
@@ -40,6 +40,14 @@ module _ (ws s : List ℕ) (at : ℕ) where
   same-start : (v : ℕ → ℕ) (n : ℕ) → ((k : ℕ) → k < n → (has map k ≡ true) ↔ (v k ≢ 0)) → start ws map at n ≡ follows ws v at n
   same-start v zero h = refl
   same-start v (suc n) h = ap₂ _+_ (same-start v n (λ k l. h k (omega arith))) (as-many (has map n) (v n) (width ws n) (h n (omega arith)))
+
+  -- a layout takes the bytes that its map says
+  pub laid-extent : (v : ℕ → ℕ) → Laid ws s at v → at + extent ws map ≡ follows ws v at (length ws)
+  laid-extent v l = shift (length ws) ∙ same-start v (length ws) (l .bits)
+    where
+      shift : (n : ℕ) → at + start ws map 0 n ≡ start ws map at n
+      shift zero = refl
+      shift (suc n) = omega (arith, shift n)
 
   -- the numbers of a layout are the fields that are read
   pub laid-field : (v : ℕ → ℕ) → Laid ws s at v → (k : ℕ) → k < length ws → field ws s at k ≡ v k

@@ -3,7 +3,9 @@ ghost use mathlib.Core.Path.{_≡_};
 ghost use Prim.Native.Nat.{_+_, _*_, _/_, _%_, _≤_, _<_};
 ghost use lib.ListN.{length};
 ghost use lib.Dec.{eqb};
-ghost use Rattle.encoding.specs.Fields.{size, field8, field16, field32, written, wordOf, longOf};
+ghost use mathlib.Core.Bool.{cond};
+ghost use Rattle.encoding.specs.Fields.{size, written, wordOf, longOf};
+ghost use Rattle.encoding.specs.Layout.{number-at};
 
 // Is the bit of this weight set in the map.
 pub fn has(map: u8, weight: u8) -> bool
@@ -37,7 +39,7 @@ pub fn long(a: u8, b: u8, c: u8, d: u8) -> u32
 // The field of one byte at a place, 0 where it is absent.
 pub fn read8(s: &[u8], present: bool, at: usize) -> u8
     requires { ⌜ at + size present 1 ≤ length (now s) ⌝ }
-    ensures { λ r. ⌜ r ≡ field8 (now (s .entry)) present at ⌝ }
+    ensures { λ r. ⌜ r ≡ cond present (number-at (now (s .entry)) at 1) 0 ⌝ }
 {
     if present {
         return s[at];
@@ -48,7 +50,7 @@ pub fn read8(s: &[u8], present: bool, at: usize) -> u8
 // The field of two bytes at a place, 0 where it is absent.
 pub fn read16(s: &[u8], present: bool, at: usize) -> u16
     requires { ⌜ at + size present 2 ≤ length (now s) ⌝ }
-    ensures { λ r. ⌜ r ≡ field16 (now (s .entry)) present at ⌝ }
+    ensures { λ r. ⌜ r ≡ cond present (number-at (now (s .entry)) at 2) 0 ⌝ }
 {
     if present {
         return word(s[at], s[at + 1]);
@@ -59,7 +61,7 @@ pub fn read16(s: &[u8], present: bool, at: usize) -> u16
 // The field of four bytes at a place, 0 where it is absent.
 pub fn read32(s: &[u8], present: bool, at: usize) -> u32
     requires { ⌜ at + size present 4 ≤ length (now s) ⌝ }
-    ensures { λ r. ⌜ r ≡ field32 (now (s .entry)) present at ⌝ }
+    ensures { λ r. ⌜ r ≡ cond present (number-at (now (s .entry)) at 4) 0 ⌝ }
 {
     if present {
         return long(s[at], s[at + 1], s[at + 2], s[at + 3]);

@@ -14,7 +14,7 @@ use Rattle.policy.specs.declared.Decoded.{Decoded}
 use Rattle.policy.specs.declared.Scanned.{Scanned}
 use Rattle.policy.specs.Format.{sizesOf, countOf, rulesUpTo, offset, subformulasOf, withAnswer, blank, heading-checks, lines-checks, closing-checks, policy-checks, answerOf, policyOf, decodeOf}
 use Rattle.policy.specs.Lines.{Scans}
-use Rattle.policy.specs.Answers.{in-lines, in-closing, to-the-end}
+use Rattle.policy.specs.Causes.{in-lines, in-closing, to-the-end}
 
 pub refuses : (s : List ℕ) (r : Refusal) (d : Decoded) → Refuses (policy-checks s) r → d ≡ withAnswer (Refused r) blank → d ≡ decodeOf s
 unfolding decodeOf answerOf

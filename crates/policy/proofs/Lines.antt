@@ -18,7 +18,7 @@ use Rattle.refusal.specs.Laws.{refusal-law, passing-law}
 use Rattle.policy.specs.Format.{lineLength, fieldsAt, goodLine, subformulaOf, subformulaAt, offset, line-checks, lines-checks, noLine, subformulasOf, rulesUpTo}
 use Rattle.policy.specs.Lines.{Scans}
 use Rattle.policy.specs.Table.{none-yet, one-more}
-use Rattle.policy.specs.Answers.{refused-line, passed-line}
+use Rattle.policy.specs.Causes.{refused-line, passed-line}
 
 -- the first i lines are accepted and read
 pub record UpTo (s : List ℕ) (i : ℕ) (subformulas : List Subformula) (rules at : ℕ) : Type 0 where

@@ -1,4 +1,5 @@
--- 01, "The card", a second time: which numbers are a heading and a line, and how they stand in the bytes. Nothing is read or tested here.
+-- 01, "The card", a second time: which numbers are a heading and a line, and how they stand in the bytes. Nothing is read or tested here;
+-- `accepts` and `reads` of Reads say that the reader takes just these bytes and reads what stands there.
 use Prim.Native.Nat.{ℕ, zero, suc, _+_, _≤_, _<_}
 use mathlib.Core.Path.{_≡_}
 use mathlib.Core.Bool.{Bool, cond}
@@ -14,11 +15,23 @@ pub record Between (least most n : ℕ) : Type 0 where
   pub high : n ≤ most
 
 -- "Marks (1 to 32), stations (1 to 16) and minutes M (1 to 1,024)", "lines (1, from 1 to 64)"
+abbrev pub Propositions-in : ℕ → Type 0
+Propositions-in n = Between 1 32 n
+
+abbrev pub Components-in : ℕ → Type 0
+Components-in n = Between 1 16 n
+
+abbrev pub Minutes-in : ℕ → Type 0
+Minutes-in n = Between 1 1024 n
+
+abbrev pub Lines-in : ℕ → Type 0
+Lines-in n = Between 1 64 n
+
 pub record Is-heading (propositions components minutes lines : ℕ) : Type 0 where
-  pub propositions-in : Between 1 32 propositions
-  pub components-in : Between 1 16 components
-  pub minutes-in : Between 1 1024 minutes
-  pub lines-in : Between 1 64 lines
+  pub propositions-in : Propositions-in propositions
+  pub components-in : Components-in components
+  pub minutes-in : Minutes-in minutes
+  pub lines-in : Lines-in lines
 
 -- The table of kinds, with "operands are numbers of earlier lines" and "lower ≤ upper ≤ 1,023": the kind, first, second, lower and upper that line i
 -- may have in a card with so many marks, a field that the kind doesn't allow being 0; and what the line means

@@ -1,10 +1,11 @@
 -- 01, "The card", as a function from the bytes to the answer and the policy. Each definition opens with its sentence.
 use Prim.Native.Nat.{ℕ, zero, suc, _+_, _-_}
-use mathlib.Core.Bool.{Bool, true, false, not, cond, _&&_}
+use mathlib.Core.Bool.{Bool, true, false, not, cond, _&&_, _||_}
 use mathlib.Core.List.{List, [], _∷_, _++_}
 use lib.Dec.{eqb, ltb, leb}
 use lib.ListN.{getD, length, replicate}
-use Rattle.encoding.specs.Fields.{has, size, wordOf, field8, field16, written}
+use Rattle.encoding.specs.Fields.{has, size, written}
+use Rattle.encoding.specs.Layout.{extent, number-at, field}
 use Rattle.mtl.specs.declared.Formula.{Formula}
 use Rattle.mtl.specs.declared.Formula.the-variants as F
 use Rattle.refusal.specs.declared.Refusal.the-variants.{TruncatedPolicy, BadHeading, BadSubformula, RuleCount}
@@ -13,52 +14,68 @@ use Rattle.policy.specs.declared.Sizes.{Sizes}
 use Rattle.policy.specs.declared.Subformula.{Subformula}
 use Rattle.policy.specs.declared.Policy.{Policy}
 use Rattle.policy.specs.declared.Fields.{Fields}
+use Rattle.policy.specs.declared.Operands.{Operands}
+use Rattle.policy.specs.declared.Operands.the-variants.{Nothing, Proposition, Line, TwoLines}
+use Rattle.policy.specs.declared.Kind.{Kind}
 use Rattle.policy.specs.declared.Decoded.{Decoded}
 use Rattle.refusal.specs.declared.Answer.{Answer}
 use Rattle.refusal.specs.declared.Answer.the-variants.{Accepted, Refused}
+use Rattle.policy.specs.Encoded.{widths}
 
 -- ---- one line
 
--- "A line is a bit map (1 byte), then only the fields whose bit stands, in this order: bit 0 kind (1 byte), bit 1 first (1), bit 2
--- second (1), bit 3 lower (2), bit 4 upper (2)." Bits 5 to 7 don't change its length
+-- "A line is a bit map (1 byte), then only the fields whose bit stands": the length of the line with this map. Bits 5 to 7 don't change it
 unfoldable pub lineLength : ℕ → ℕ
-lineLength map = 1 + size (has map 0) 1 + size (has map 1) 1 + size (has map 2) 1 + size (has map 3) 2 + size (has map 4) 2
+lineLength map = extent widths map
 
 -- the fields of the line whose map stands at a place
 unfoldable pub fieldsAt : List ℕ → ℕ → Fields
 fieldsAt s at =
-    let map = getD s at 0 in
-    let first = at + 1 + size (has map 0) 1 in
-    let second = first + size (has map 1) 1 in
-    let lower = second + size (has map 2) 1 in
-    let upper = lower + size (has map 3) 2 in
     record {
-      map = map;
-      kind = field8 s (has map 0) (at + 1);
-      first = field8 s (has map 1) first;
-      second = field8 s (has map 2) second;
-      lower = field16 s (has map 3) lower;
-      upper = field16 s (has map 4) upper;
+      map = getD s at 0;
+      kind = field widths s at 0;
+      first = field widths s at 1;
+      second = field widths s at 2;
+      lower = field widths s at 3;
+      upper = field widths s at 4;
     }
 
--- The table's last column: which of first, second, lower and upper a kind allows. There is no kind above 5
-unfoldable pub allowed : ℕ → ℕ → Bool
-allowed zero map = not (has map 1) && (not (has map 2) && (not (has map 3) && not (has map 4)))
-allowed (suc zero) map = not (has map 2) && (not (has map 3) && not (has map 4))
-allowed (suc (suc zero)) map = not (has map 2) && (not (has map 3) && not (has map 4))
-allowed (suc (suc (suc zero))) map = not (has map 3) && not (has map 4)
-allowed (suc (suc (suc (suc zero)))) map = true
-allowed (suc (suc (suc (suc (suc zero))))) map = true
-allowed (suc (suc (suc (suc (suc (suc k)))))) map = false
+-- The table of kinds, a row a kind: which of first, second, lower and upper it allows, and what its operands are. "Mark number first"; "for
+-- kinds 2 to 5, operands are numbers of earlier lines"
+abbrev row : Bool → Bool → Bool → Bool → Operands → Kind
+row first second lower upper operands = record { first = first; second = second; lower = lower; upper = upper; operands = operands }
 
--- "Mark number first": a mark of this card. "For kinds 2 to 5, operands are numbers of earlier lines"
-unfoldable pub operandsGood : ℕ → ℕ → Fields → ℕ → Bool
-operandsGood propositions line f zero = true
-operandsGood propositions line f (suc zero) = ltb (f .first) propositions
-operandsGood propositions line f (suc (suc zero)) = ltb (f .first) line
-operandsGood propositions line f (suc (suc (suc k))) = ltb (f .first) line && ltb (f .second) line
+abbrev pub kinds : List Kind
+kinds =
+    row false false false false Nothing
+    ∷ row true false false false Proposition
+    ∷ row true false false false Line
+    ∷ row true true false false TwoLines
+    ∷ row true true true true TwoLines
+    ∷ row true true true true TwoLines
+    ∷ []
 
--- "Bits 6 and 7 are 0." "A written field is not 0." The fields allowed, the operands, and "lower ≤ upper ≤ 1,023"
+abbrev pub kindOf : ℕ → Kind
+kindOf k = getD kinds k (row false false false false Nothing)
+
+-- the map names only fields that the kind allows
+abbrev pub allowed : Kind → ℕ → Bool
+allowed k map = (k .first || not (has map 1)) && ((k .second || not (has map 2)) && ((k .lower || not (has map 3)) && (k .upper || not (has map 4))))
+
+-- a mark of this card, or earlier lines
+abbrev pub operandsGood : Operands → ℕ → ℕ → ℕ → ℕ → Bool
+operandsGood Nothing propositions line first second = true
+operandsGood Proposition propositions line first second = ltb first propositions
+operandsGood Line propositions line first second = ltb first line
+operandsGood TwoLines propositions line first second = ltb first line && ltb second line
+
+-- there is such a kind, and the fields keep its row
+unfoldable pub keepsKind : ℕ → ℕ → Fields → Bool
+keepsKind propositions line f =
+    ltb (f .kind) (length kinds)
+    && (allowed (kindOf (f .kind)) (f .map) && operandsGood (kindOf (f .kind) .operands) propositions line (f .first) (f .second))
+
+-- "Bits 6 and 7 are 0." "A written field is not 0." The row of the kind, and "lower ≤ upper ≤ 1,023"
 unfoldable pub goodLine : ℕ → ℕ → Fields → Bool
 goodLine propositions line f =
     ltb (f .map) 64
@@ -67,22 +84,21 @@ goodLine propositions line f =
     && (written (has (f .map) 2) (f .second)
     && (written (has (f .map) 3) (f .lower)
     && (written (has (f .map) 4) (f .upper)
-    && (allowed (f .kind) (f .map)
-    && (operandsGood propositions line f (f .kind)
+    && (keepsKind propositions line f
     && (leb (f .lower) (f .upper)
-    && leb (f .upper) 1023))))))))
+    && leb (f .upper) 1023)))))))
 
--- the table's middle column
-unfoldable pub meaning : ℕ → Fields → Formula
-meaning zero f = F.True
-meaning (suc zero) f = F.Proposition (f .first)
-meaning (suc (suc zero)) f = F.Not (f .first)
-meaning (suc (suc (suc zero))) f = F.Or (f .first) (f .second)
-meaning (suc (suc (suc (suc zero)))) f = F.Since (f .first) (f .second) (f .lower) (f .upper)
-meaning (suc (suc (suc (suc (suc k))))) f = F.Until (f .first) (f .second) (f .lower) (f .upper)
+-- the table's middle column: what a line of this kind means, with its first, second, lower and upper
+unfoldable pub meaning : ℕ → ℕ → ℕ → ℕ → ℕ → Formula
+meaning zero a b lower upper = F.True
+meaning (suc zero) a b lower upper = F.Proposition a
+meaning (suc (suc zero)) a b lower upper = F.Not a
+meaning (suc (suc (suc zero))) a b lower upper = F.Or a b
+meaning (suc (suc (suc (suc zero)))) a b lower upper = F.Since a b lower upper
+meaning (suc (suc (suc (suc (suc k))))) a b lower upper = F.Until a b lower upper
 
 unfoldable pub formulaOf : Fields → Formula
-formulaOf f = meaning (f .kind) f
+formulaOf f = meaning (f .kind) (f .first) (f .second) (f .lower) (f .upper)
 
 -- "Bit 5 makes the line a rule"
 unfoldable pub subformulaOf : Fields → Subformula
@@ -95,7 +111,7 @@ subformulaAt s at = subformulaOf (fieldsAt s at)
 
 -- "Heading, 5 bytes: marks (1), stations (1), minutes (2), lines (1)"
 abbrev pub sizesOf : List ℕ → Sizes
-sizesOf s = record { propositions = getD s 0 0; components = getD s 1 0; minutes = wordOf (getD s 2 0) (getD s 3 0) }
+sizesOf s = record { propositions = getD s 0 0; components = getD s 1 0; minutes = number-at s 2 2 }
 
 abbrev pub countOf : List ℕ → ℕ
 countOf s = getD s 4 0
@@ -108,7 +124,7 @@ unfoldable pub heading-checks : List ℕ → List Check
 heading-checks s =
     check (within 1 32 (getD s 0 0)) (BadHeading 0)
     ∷ check (within 1 16 (getD s 1 0)) (BadHeading 1)
-    ∷ check (within 1 1024 (wordOf (getD s 2 0) (getD s 3 0))) (BadHeading 2)
+    ∷ check (within 1 1024 (number-at s 2 2)) (BadHeading 2)
     ∷ check (within 1 64 (countOf s)) (BadHeading 4)
     ∷ []
 

@@ -1,11 +1,14 @@
 -- The policy: its format, and the laws of what is read.
-pub mod Answers
 pub mod Causes
 pub mod Chained
 pub mod Encoded
 pub mod Format
+pub mod Kinds
 pub mod Laws
 pub mod Lines
 pub mod Proper
 pub mod Ranges
+pub mod Reads
+pub mod Rules
+pub mod Stands
 pub mod Table

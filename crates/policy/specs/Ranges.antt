@@ -1,32 +1,32 @@
--- A test of a range says that the number is in it. Assumes nothing.
+-- A test of a range says that the number is in it; a test that decides a claim fails where the claim doesn't hold. Assumes nothing.
 use Prim.Native.Nat.{ℕ}
-use mathlib.Core.Path.{_≡_, refl}
-use mathlib.Core.Bool.{Bool, true, false, _&&_}
-use native.Mathlib.Omega.{arith}
+use mathlib.Core.Path.{_≡_, refl, sym, _∙_}
+use mathlib.Core.Bool.{Bool, true, false, true≢false}
+use mathlib.Core.Logic.{_↔_}
 use borrow.Author.Tests.{leb-true, le-leb}
 use lib.Dec.{leb}
+use Rattle.mtl.specs.Folds.{both, pair}
+use Rattle.policy.specs.Encoded.{Between}
 use Rattle.policy.specs.Format.{within}
-use Rattle.policy.specs.Proper.{Between}
 
-pub both-true : (a b : Bool) → (a && b) ≡ true → (a ≡ true) × (b ≡ true)
-both-true true b e = (refl, e)
-both-true false b e = absurd (let z : _≡_ {A = ℕ} 0 1 = cc in omega arith)
+pub fails : {P : Type 0} (b : Bool) → (b ≡ true) ↔ P → (P → ⊥) → b ≡ false
+fails true law n = absurd (n (law .0 refl))
+fails false law n = refl
+
+pub denies : {P : Type 0} (b : Bool) → (b ≡ true) ↔ P → b ≡ false → P → ⊥
+denies b law e p = true≢false (sym (law .1 p) ∙ e)
 
 module _ (least most n : ℕ) where
   pub in-between : within least most n ≡ true → Between least most n
   in-between e =
-      let p = both-true (leb least n) (leb n most) e in
+      let p = both (leb least n) (leb n most) e in
       record { low = leb-true least n (p .0); high = leb-true n most (p .1) }
 
   pub between-in : Between least most n → within least most n ≡ true
-  between-in b = rw (le-leb least n (b .low), le-leb n most (b .high))
+  between-in b = pair (le-leb least n (b .low)) (le-leb n most (b .high))
 
   pub not-between : within least most n ≡ false → Between least most n → ⊥
-  not-between e b = let h = between-in b in let z : _≡_ {A = ℕ} 0 1 = cc in omega arith
+  not-between = denies (within least most n) (in-between, between-in)
 
   pub outside : (Between least most n → ⊥) → within least most n ≡ false
-  outside h = go (within least most n) refl
-    where
-      go : (b : Bool) → within least most n ≡ b → within least most n ≡ false
-      go true e = absurd (h (in-between e))
-      go false e = e
+  outside = fails (within least most n) (in-between, between-in)

@@ -15,8 +15,49 @@ ghost use lib.ListN.{length, getD};
 ghost use lib.Dec.{eqb, leb};
 ghost use Rattle.encoding.specs.Fields.{size, written};
 ghost use Rattle.refusal.specs.Checks.{first-failed};
-ghost use Rattle.policy.specs.Format.{lineLength, fieldsAt, allowed, operandsGood, goodLine, formulaOf, subformulaOf, within, heading-checks, sizesOf, blank, withAnswer, closing-checks, decodeOf};
+ghost use Rattle.policy.specs.Format.{lineLength, fieldsAt, allowed, operandsGood, keepsKind, goodLine, formulaOf, subformulaOf, within, heading-checks, sizesOf, blank, withAnswer, closing-checks, decodeOf};
 ghost use Rattle.policy.specs.Lines.{Scans};
+
+// The heading, and the ranges of its numbers (01: the card).
+const HEADING: usize = 5;
+
+const MOST_PROPOSITIONS: usize = 32;
+
+const MOST_COMPONENTS: usize = 16;
+
+const MOST_MINUTES: usize = 1024;
+
+const MOST_LINES: usize = 64;
+
+const MOST_RULES: usize = 8;
+
+const MOST_UPPER: u16 = 1023;
+
+// The bits of a line's map.
+const HAS_KIND: u8 = 1;
+
+const HAS_FIRST: u8 = 2;
+
+const HAS_SECOND: u8 = 4;
+
+const HAS_LOWER: u8 = 8;
+
+const HAS_UPPER: u8 = 16;
+
+const IS_RULE: u8 = 32;
+// Bits 6 and 7 are 0: a map is below this.
+const SPARE: u8 = 64;
+
+// The kinds of a line.
+const TRUE: u8 = 0;
+
+const PROPOSITION: u8 = 1;
+
+const NOT: u8 = 2;
+
+const OR: u8 = 3;
+
+const SINCE: u8 = 4;
 
 // How many propositions (01: marks), components (01: stations) and minutes a trace has.
 pub struct Sizes {
@@ -37,7 +78,7 @@ pub struct Policy {
     pub count: usize,
     // how many of them are rules
     pub rules: usize,
-    pub subformulas: [Subformula; 64],
+    pub subformulas: [Subformula; MOST_LINES],
 }
 
 // The answer, and beside it the policy that was read; a refusal has a blank one.
@@ -56,12 +97,77 @@ pub struct Fields {
     pub upper: u16,
 }
 
+// What the operands of a kind are.
+enum Operands {
+    Nothing,
+    Proposition,
+    Line,
+    TwoLines,
+}
+
+// A row of the table of kinds: the fields that the kind allows besides itself, and what its operands are.
+struct Kind {
+    first: bool,
+    second: bool,
+    lower: bool,
+    upper: bool,
+    operands: Operands,
+}
+
+// True.
+const CONSTANT: Kind = Kind {
+    first: false,
+    second: false,
+    lower: false,
+    upper: false,
+    operands: Operands::Nothing,
+};
+
+// A proposition.
+const ATOM: Kind = Kind {
+    first: true,
+    second: false,
+    lower: false,
+    upper: false,
+    operands: Operands::Proposition,
+};
+
+// Of one line.
+const UNARY: Kind = Kind {
+    first: true,
+    second: false,
+    lower: false,
+    upper: false,
+    operands: Operands::Line,
+};
+
+// Of two lines.
+const BINARY: Kind = Kind {
+    first: true,
+    second: true,
+    lower: false,
+    upper: false,
+    operands: Operands::TwoLines,
+};
+
+// Of two lines and an interval.
+const TEMPORAL: Kind = Kind {
+    first: true,
+    second: true,
+    lower: true,
+    upper: true,
+    operands: Operands::TwoLines,
+};
+
+// The table of kinds, a row a kind.
+const KINDS: [Kind; 6] = [CONSTANT, ATOM, UNARY, BINARY, TEMPORAL, TEMPORAL];
+
 // The lines read: the answer, and where it is Accepted the place after them, how many are rules, and the table.
 struct Scanned {
     answer: Answer,
     at: usize,
     rules: usize,
-    subformulas: [Subformula; 64],
+    subformulas: [Subformula; MOST_LINES],
 }
 
 // How many bytes of a line the field of this weight takes.
@@ -76,11 +182,11 @@ fn field_size(map: u8, weight: u8, n: usize) -> usize
 fn line_length(map: u8) -> usize
     ensures { λ r. ⌜ (r ≡ lineLength map) × (r ≤ 8) ⌝ }
 {
-    let kind = field_size(map, 1, 1);
-    let first = field_size(map, 2, 1);
-    let second = field_size(map, 4, 1);
-    let lower = field_size(map, 8, 2);
-    let upper = field_size(map, 16, 2);
+    let kind = field_size(map, HAS_KIND, 1);
+    let first = field_size(map, HAS_FIRST, 1);
+    let second = field_size(map, HAS_SECOND, 1);
+    let lower = field_size(map, HAS_LOWER, 2);
+    let upper = field_size(map, HAS_UPPER, 2);
     1 + kind + first + second + lower + upper
 }
 
@@ -102,17 +208,17 @@ fn fields_at(s: &[u8], at: usize) -> Fields
     ensures { λ r. ⌜ r ≡ fieldsAt (now (s .entry)) at ⌝ }
 {
     let map = s[at];
-    let first = at + 1 + field_size(map, 1, 1);
-    let second = first + field_size(map, 2, 1);
-    let lower = second + field_size(map, 4, 1);
-    let upper = lower + field_size(map, 8, 2);
+    let first = at + 1 + field_size(map, HAS_KIND, 1);
+    let second = first + field_size(map, HAS_FIRST, 1);
+    let lower = second + field_size(map, HAS_SECOND, 1);
+    let upper = lower + field_size(map, HAS_LOWER, 2);
     Fields {
         map: map,
-        kind: read8(s, has(map, 1), at + 1),
-        first: read8(s, has(map, 2), first),
-        second: read8(s, has(map, 4), second),
-        lower: read16(s, has(map, 8), lower),
-        upper: read16(s, has(map, 16), upper),
+        kind: read8(s, has(map, HAS_KIND), at + 1),
+        first: read8(s, has(map, HAS_FIRST), first),
+        second: read8(s, has(map, HAS_SECOND), second),
+        lower: read16(s, has(map, HAS_LOWER), lower),
+        upper: read16(s, has(map, HAS_UPPER), upper),
     }
 }
 
@@ -125,43 +231,53 @@ fn field_good(map: u8, weight: u8, value: u32) -> bool
 }
 
 // Does the map name only fields that the kind allows.
-fn is_allowed(kind: u8, map: u8) -> bool
+fn is_allowed(kind: Kind, map: u8) -> bool
     ensures { λ r. ⌜ r ≡ allowed kind map ⌝ }
 {
-    let no_first = !has(map, 2);
-    let no_second = !has(map, 4);
-    let no_lower = !has(map, 8);
-    let no_upper = !has(map, 16);
-    let no_interval = no_lower & no_upper;
-    if kind == 0 {
-        return no_first & (no_second & no_interval);
-    }
-    if kind <= 2 {
-        return no_second & no_interval;
-    }
-    if kind == 3 {
-        return no_interval;
-    }
-    kind <= 5
+    let first = kind.first | !has(map, HAS_FIRST);
+    let second = kind.second | !has(map, HAS_SECOND);
+    let lower = kind.lower | !has(map, HAS_LOWER);
+    let upper = kind.upper | !has(map, HAS_UPPER);
+    first & (second & (lower & upper))
 }
 
 // Is the proposition one of the policy, or are the operands earlier lines.
-fn operands_good(propositions: u8, line: usize, fields: Fields) -> bool
-    ensures { λ r. ⌜ r ≡ operandsGood propositions line fields (fields .kind) ⌝ }
+fn operands_good(
+    operands: Operands,
+    propositions: usize,
+    line: usize,
+    first: usize,
+    second: usize,
+) -> bool
+    ensures { λ r. ⌜ r ≡ operandsGood operands propositions line first second ⌝ }
 {
-    let kind = fields.kind;
-    let first = fields.first;
-    let second = fields.second;
-    if kind == 0 {
-        return true;
+    match operands {
+        Operands::Nothing => true,
+        Operands::Proposition => first < propositions,
+        Operands::Line => first < line,
+        Operands::TwoLines => (first < line) & (second < line),
     }
-    if kind == 1 {
-        return first < propositions;
+}
+
+// Is there such a kind, and do the fields keep its row.
+fn keeps_kind(propositions: u8, line: usize, fields: Fields) -> bool
+    ensures { λ r. ⌜ r ≡ keepsKind propositions line fields ⌝ }
+{
+    let kind = fields.kind as usize;
+    if kind >= KINDS.len() {
+        return false;
     }
-    if kind == 2 {
-        return (first as usize) < line;
-    }
-    ((first as usize) < line) & ((second as usize) < line)
+    let row = KINDS[kind];
+    let operands = row.operands;
+    let named = is_allowed(row, fields.map);
+    let referred = operands_good(
+        operands,
+        propositions as usize,
+        line,
+        fields.first as usize,
+        fields.second as usize,
+    );
+    named & referred
 }
 
 // Does the line keep every rule.
@@ -169,18 +285,15 @@ fn good_line(propositions: u8, line: usize, fields: Fields) -> bool
     ensures { λ r. ⌜ r ≡ goodLine propositions line fields ⌝ }
 {
     let map = fields.map;
-    let kind = field_good(map, 1, fields.kind as u32);
-    let first = field_good(map, 2, fields.first as u32);
-    let second = field_good(map, 4, fields.second as u32);
-    let lower = field_good(map, 8, fields.lower as u32);
-    let upper = field_good(map, 16, fields.upper as u32);
-    let named = is_allowed(fields.kind, map);
-    let operands = operands_good(propositions, line, fields);
+    let kind = field_good(map, HAS_KIND, fields.kind as u32);
+    let first = field_good(map, HAS_FIRST, fields.first as u32);
+    let second = field_good(map, HAS_SECOND, fields.second as u32);
+    let lower = field_good(map, HAS_LOWER, fields.lower as u32);
+    let upper = field_good(map, HAS_UPPER, fields.upper as u32);
+    let row = keeps_kind(propositions, line, fields);
     let ordered = fields.lower <= fields.upper;
-    let bounded = fields.upper <= 1023;
-    (map < 64)
-        & (kind
-            & (first & (second & (lower & (upper & (named & (operands & (ordered & bounded))))))))
+    let bounded = fields.upper <= MOST_UPPER;
+    (map < SPARE) & (kind & (first & (second & (lower & (upper & (row & (ordered & bounded)))))))
 }
 
 // The meaning of a line.
@@ -188,19 +301,19 @@ fn formula_of(fields: Fields) -> Formula
     ensures { λ r. ⌜ r ≡ formulaOf fields ⌝ }
 {
     let kind = fields.kind;
-    if kind == 0 {
+    if kind == TRUE {
         return Formula::True;
     }
-    if kind == 1 {
+    if kind == PROPOSITION {
         return Formula::Proposition(fields.first);
     }
-    if kind == 2 {
+    if kind == NOT {
         return Formula::Not(fields.first);
     }
-    if kind == 3 {
+    if kind == OR {
         return Formula::Or(fields.first, fields.second);
     }
-    if kind == 4 {
+    if kind == SINCE {
         return Formula::Since {
             left: fields.first,
             right: fields.second,
@@ -221,7 +334,7 @@ fn subformula_of(fields: Fields) -> Subformula
     ensures { λ r. ⌜ r ≡ subformulaOf fields ⌝ }
 {
     let formula = formula_of(fields);
-    let rule = has(fields.map, 32);
+    let rule = has(fields.map, IS_RULE);
     Subformula {
         formula: formula,
         rule: rule,
@@ -240,16 +353,16 @@ fn heading_answer(s: &[u8]) -> Answer
     requires { ⌜ 5 ≤ length (now s) ⌝ }
     ensures { λ r. ⌜ r ≡ first-failed (heading-checks (now (s .entry))) ⌝ }
 {
-    if !in_range(1, 32, s[0] as usize) {
+    if !in_range(1, MOST_PROPOSITIONS, s[0] as usize) {
         return Answer::Refused(Refusal::BadHeading(0));
     }
-    if !in_range(1, 16, s[1] as usize) {
+    if !in_range(1, MOST_COMPONENTS, s[1] as usize) {
         return Answer::Refused(Refusal::BadHeading(1));
     }
-    if !in_range(1, 1024, word(s[2], s[3]) as usize) {
+    if !in_range(1, MOST_MINUTES, word(s[2], s[3]) as usize) {
         return Answer::Refused(Refusal::BadHeading(2));
     }
-    if !in_range(1, 64, s[4] as usize) {
+    if !in_range(1, MOST_LINES, s[4] as usize) {
         return Answer::Refused(Refusal::BadHeading(4));
     }
     Answer::Accepted
@@ -265,9 +378,9 @@ fn scan(s: &[u8], count: usize) -> Scanned
         formula: Formula::True,
         rule: false,
     };
-    let mut subformulas = [none; 64];
+    let mut subformulas = [none; MOST_LINES];
     let mut rules = 0;
-    let mut at = 5;
+    let mut at = HEADING;
     let mut i = 0;
     while i < count {
         if !is_whole(s, at) {
@@ -290,7 +403,7 @@ fn scan(s: &[u8], count: usize) -> Scanned
         let subformula = subformula_of(fields);
         subformulas[i] = subformula;
         let map = fields.map;
-        rules += field_size(map, 32, 1);
+        rules += field_size(map, IS_RULE, 1);
         at += line_length(map);
         i += 1;
     }
@@ -319,7 +432,7 @@ fn refused(r: Refusal) -> Decoded
         sizes: sizes,
         count: 0,
         rules: 0,
-        subformulas: [none; 64],
+        subformulas: [none; MOST_LINES],
     };
     Decoded {
         answer: Answer::Refused(r),
@@ -334,7 +447,7 @@ fn closing_answer(length: usize, at: usize, rules: usize) -> Answer
     if at != length {
         return Answer::Refused(Refusal::TruncatedPolicy(at));
     }
-    if !in_range(1, 8, rules) {
+    if !in_range(1, MOST_RULES, rules) {
         return Answer::Refused(Refusal::RuleCount);
     }
     Answer::Accepted
@@ -388,7 +501,7 @@ pub fn decode(s: &[u8]) -> Decoded
     ensures { λ r. ⌜ r ≡ decodeOf (now (s .entry)) ⌝ }
 {
     let length = s.len();
-    if length < 5 {
+    if length < HEADING {
         return refused(Refusal::TruncatedPolicy(length));
     }
     let heading = heading_answer(s);

@@ -1,8 +1,7 @@
+-- A written field is tested, an absent one passes: the definition, by cases. Assumes nothing.
 use borrow.Author.Needs.{needs}
 use Rattle.encoding.proofs.is_written.Statement.{statement}
 use Rattle.encoding.proofs.is_written.Tie as tie
-use Rattle.encoding.proofs.is_written.Reads as reads
-use Rattle.encoding.proofs.is_written.Lts as lts
 
 returns : tie.Need-returns
 returns c = simp (c .if1 .taken)

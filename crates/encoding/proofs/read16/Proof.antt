@@ -1,12 +1,10 @@
+-- A field that is present has its two bytes, the lower first; an absent one is 0. Assumes nothing.
 use native.Mathlib.Omega.{arith}
 use mathlib.Core.Path.{_∙_}
 use Rattle.encoding.proofs.Present.{fits, its}
 use borrow.Author.Needs.{needs}
 use Rattle.encoding.proofs.read16.Statement.{statement}
 use Rattle.encoding.proofs.read16.Tie as tie
-use Rattle.encoding.proofs.read16.Reads as reads
-use Rattle.encoding.proofs.read16.Lts as lts
-use Rattle.encoding.proofs.word.Reads as word-reads
 
 shared-slice-read-word : tie.Need-shared-slice-read-word
 shared-slice-read-word c =

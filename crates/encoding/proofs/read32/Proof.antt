@@ -1,12 +1,10 @@
+-- A field that is present has its four bytes, the lowest first; an absent one is 0. Assumes nothing.
 use native.Mathlib.Omega.{arith}
 use mathlib.Core.Path.{_∙_}
 use Rattle.encoding.proofs.Present.{fits, its}
 use borrow.Author.Needs.{needs}
 use Rattle.encoding.proofs.read32.Statement.{statement}
 use Rattle.encoding.proofs.read32.Tie as tie
-use Rattle.encoding.proofs.read32.Reads as reads
-use Rattle.encoding.proofs.read32.Lts as lts
-use Rattle.encoding.proofs.long.Reads as long-reads
 
 shared-slice-read-long : tie.Need-shared-slice-read-long
 shared-slice-read-long c =

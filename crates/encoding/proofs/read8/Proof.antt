@@ -1,11 +1,9 @@
+-- A field that is present has its byte; an absent one is 0. Assumes nothing.
 use native.Mathlib.Omega.{arith}
-use mathlib.Core.Path.{_∙_}
 use Rattle.encoding.proofs.Present.{fits, its}
 use borrow.Author.Needs.{needs}
 use Rattle.encoding.proofs.read8.Statement.{statement}
 use Rattle.encoding.proofs.read8.Tie as tie
-use Rattle.encoding.proofs.read8.Reads as reads
-use Rattle.encoding.proofs.read8.Lts as lts
 
 shared-slice-read-result : tie.Need-shared-slice-read-result
 shared-slice-read-result c =

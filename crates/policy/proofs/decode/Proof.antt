@@ -1,6 +1,6 @@
 -- Each way out is one check of `answerOf`, with the checks before it passed. Assumes nothing.
 use Rattle.policy.proofs.Decoding.{refuses}
-use Rattle.policy.specs.Answers.{no-heading, in-heading}
+use Rattle.policy.specs.Causes.{no-heading, in-heading}
 use Rattle.refusal.specs.Laws.{refusal-law}
 use mathlib.Core.Path.{sym, _∙_}
 use borrow.Author.Needs.{needs}

@@ -15,7 +15,7 @@ cast-count : tie.Need-cast-count
 cast-count c = omega (arith, c .shared-slice-known2 .given 4)
 
 scan-requires : tie.Need-scan-requires
-scan-requires c κs = let h = c .before .before .pre in (h .0, headed _ (h .0) (passing-law _ .0 (h .1)) .count .high)
+scan-requires c κs = let h = c .before .before .pre in (h .0, headed _ (h .0) (passing-law _ .0 (h .1)) .heading .lines-in .high)
 
 enum-known-answer : tie.Need-enum-known-answer
 enum-known-answer c = search needs

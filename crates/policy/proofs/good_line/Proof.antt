@@ -38,23 +38,19 @@ cast-field-good-5 c = search needs
 field-good-requires-5 : tie.Need-field-good-requires-5
 field-good-requires-5 c κs = search needs
 
-is-allowed-requires : tie.Need-is-allowed-requires
-is-allowed-requires c κs = search needs
-
-operands-good-requires : tie.Need-operands-good-requires
-operands-good-requires c κs = search needs
+keeps-kind-requires : tie.Need-keeps-kind-requires
+keeps-kind-requires c κs = search needs
 
 returns : tie.Need-returns
 unfolding goodLine
-returns c = let f = c .before .before .before .before .before .before .before .before .before .before .before .before .before .before .args .fields in
+returns c = let f = c .before .before .before .before .before .before .before .before .before .before .before .before .before .args .fields in
     both {a = ltb (f .map) 64} refl
-    (both (c .before .before .before .before .before .before .before .before .before .before .before .before .field-good .ensures)
-    (both (c .before .before .before .before .before .before .before .before .before .before .field-good2 .ensures)
-    (both (c .before .before .before .before .before .before .before .before .field-good3 .ensures)
-    (both (c .before .before .before .before .before .before .field-good4 .ensures)
-    (both (c .before .before .before .before .field-good5 .ensures)
-    (both (c .before .before .before .is-allowed .ensures)
-    (both {c = leb (f .lower) (f .upper) && leb (f .upper) 1023} (c .before .before .operands-good .ensures) refl)))))))
+    (both (c .before .before .before .before .before .before .before .before .before .before .before .field-good .ensures)
+    (both (c .before .before .before .before .before .before .before .before .before .field-good2 .ensures)
+    (both (c .before .before .before .before .before .before .before .field-good3 .ensures)
+    (both (c .before .before .before .before .before .field-good4 .ensures)
+    (both (c .before .before .before .field-good5 .ensures)
+    (both {c = leb (f .lower) (f .upper) && leb (f .upper) 1023} (c .before .before .keeps-kind .ensures) refl))))))
 
 pub good-line-spec : {M : Type 1} → statement M
 good-line-spec =
@@ -70,6 +66,5 @@ good-line-spec =
     field-good-requires-4
     cast-field-good-5
     field-good-requires-5
-    is-allowed-requires
-    operands-good-requires
+    keeps-kind-requires
     returns)

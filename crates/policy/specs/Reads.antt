@@ -1,0 +1,108 @@
+-- The bytes are accepted exactly when they are a card of 01, and what is read is what stands there: each line is read where the one before it
+-- ended, so its place is that of the layout. Assumes nothing.
+use Prim.Native.Nat.{ℕ, zero, suc, _+_, _≤_, _<_}
+use mathlib.Core.Path.{_≡_, refl, sym, ap, subst, _∙_}
+use mathlib.Core.Bool.{Bool}
+use mathlib.Core.Logic.{_↔_, ⊎-elim}
+use mathlib.Core.List.{List}
+use native.Mathlib.Omega.{arith}
+use native.Mathlib.Nat.{eq-or-lt-of-le}
+use lib.ListN.{getD, length}
+use Rattle.encoding.specs.Fields.{has, size}
+use Rattle.encoding.specs.Layout.{extent}
+use Rattle.encoding.specs.Laws.{laid-extent}
+use Rattle.refusal.specs.declared.Answer.the-variants.{Accepted}
+use Rattle.policy.specs.declared.Subformula.{Subformula}
+use Rattle.policy.specs.Encoded.{Between, Line, widths, numbers, Line-at, rules-in, Is-policy}
+use Rattle.policy.specs.Format.{lineLength, fieldsAt, subformulaOf, subformulaAt, countOf, offset, noLine, rulesUpTo, answerOf, policyOf}
+use Rattle.policy.specs.Proper.{Whole}
+use Rattle.policy.specs.Stands.{lineOf, only}
+use Rattle.policy.specs.Table.{line-at}
+use Rattle.policy.specs.Causes.{causes}
+
+module _ (s : List ℕ) where
+  -- ---- accepted bytes are a card
+
+  module _ (w : Whole s) where
+    -- the line that is read stands there
+    line-read : (i : ℕ) → i < countOf s → Line-at s (getD s 0 0) i (offset s i) (lineOf (fieldsAt s (offset s i)))
+    line-read i h =
+        let l = w .lines i h .1 in
+        subst (Line-at s (getD s 0 0) i (offset s i)) (only s (getD s 0 0) i (offset s i) (l .0) (l .1)) (l .1)
+
+    rules-read : (n : ℕ) → rulesUpTo s n ≡ rules-in (λ i. lineOf (fieldsAt s (offset s i))) n
+    unfolding rulesUpTo fieldsAt
+    rules-read zero = refl
+    rules-read (suc n) = ap (λ (k : ℕ). k + size (has (getD s (offset s n) 0) 5) 1) (rules-read n)
+
+    is-policy : Between 1 8 (rulesUpTo s (countOf s)) → Is-policy s
+    unfolding offset lineLength
+    is-policy r =
+        record {
+          heading = w .headed .heading;
+          lines = λ i. lineOf (fieldsAt s (offset s i));
+          at = offset s;
+          starts = refl;
+          line = line-read;
+          next = λ i h. laid-extent widths s (offset s i) _ (line-read i h .laid);
+          ends = w .ends;
+          rules = subst (Between 1 8) (rules-read (countOf s)) r;
+        }
+
+  -- ---- a card is accepted
+
+  grows : (n i : ℕ) → i ≤ n → offset s i ≤ offset s n
+  unfolding offset
+  grows zero zero h = omega arith
+  grows zero (suc i) h = absurd (omega arith)
+  grows (suc n) i h = ⊎-elim (λ (e : i ≡ suc n). rw e (omega arith)) (λ (l : i < suc n). omega (arith, grows n i (omega arith))) (eq-or-lt-of-le h)
+
+  module _ (p : Is-policy s) where
+    places : (i : ℕ) → i ≤ countOf s → p .at i ≡ offset s i
+    unfolding offset lineLength
+    places zero h = p .starts
+    places (suc i) h =
+        p .next i (omega arith)
+        ∙ sym (laid-extent widths s (p .at i) (numbers (p .lines i)) (p .line i (omega arith) .laid))
+        ∙ ap (λ (at : ℕ). at + extent widths (getD s at 0)) (places i (omega arith))
+
+    stood : (i : ℕ) → i < countOf s → Line-at s (getD s 0 0) i (offset s i) (p .lines i)
+    stood i h = subst (λ (at : ℕ). Line-at s (getD s 0 0) i at (p .lines i)) (places i (omega arith)) (p .line i h)
+
+    ends : offset s (countOf s) ≡ length s
+    ends = sym (places (countOf s) (omega arith)) ∙ p .ends
+
+    whole : Whole s
+    unfolding offset
+    whole =
+        record {
+          headed = record { long = omega (arith, grows (countOf s) 0 (omega arith), ends); heading = p .heading };
+          lines = λ j h. (omega (arith, grows (countOf s) (suc j) (omega arith), ends), (p .lines j, stood j h));
+          ends = ends;
+        }
+
+    rules-stood : (n : ℕ) → n ≤ countOf s → rules-in (p .lines) n ≡ rulesUpTo s n
+    unfolding rulesUpTo
+    rules-stood zero h = refl
+    rules-stood (suc n) h =
+        ap (λ (k : ℕ). k + size (p .lines n .rule) 1) (rules-stood n (omega arith))
+        ∙ ap (λ (b : Bool). rulesUpTo s n + size b 1) (sym (stood n (omega arith) .rule))
+
+  -- ---- what is accepted, and what is read
+
+  pub accepts : (answerOf s ≡ Accepted) ↔ Is-policy s
+  accepts = (
+    λ e. let w = causes s .accepted .0 e in is-policy (w .0) (w .1),
+    λ p. causes s .accepted .1 (whole p, subst (Between 1 8) (rules-stood p (countOf s) (omega arith)) (p .rules)),
+  )
+
+  pub reads : (p : Is-policy s) (i : ℕ) → i < countOf s
+      → getD (policyOf s .subformulas) i noLine ≡ record { formula = p .lines i .formula; rule = p .lines i .rule }
+  unfolding policyOf subformulaAt subformulaOf
+  reads p i h =
+      line-at s (countOf s) i h
+      ∙ ap {B = Subformula} (λ (l : Line). record { formula = l .formula; rule = l .rule }) (sym (only s (getD s 0 0) i (offset s i) (p .lines i) (stood p i h)))
+
+  pub reads-rules : (p : Is-policy s) → policyOf s .rules ≡ rules-in (p .lines) (countOf s)
+  unfolding policyOf
+  reads-rules p = sym (rules-stood p (countOf s) (omega arith))
