@@ -1,6 +1,7 @@
 -- The knowledge and the traces that agree with it.
 pub mod Trace
 pub mod Knowledge
+pub mod Past
 pub mod Pins
 pub mod Laws
 pub mod Store
