@@ -216,7 +216,10 @@ expanded-other n map v k e = go (bit (expanded n map v) k) refl
     go false f = f
 
 -- and no other number of n bits is so
-pub expanded-only : (n map v x : ℕ) → x < 2 ^ n → ((k : ℕ) → k < n → bit map k ≡ true → bit x k ≡ bit v (below k map)) → ((k : ℕ) → bit map k ≡ false → bit x k ≡ false) → x ≡ expanded n map v
+pub expanded-only : (n map v x : ℕ) → x < 2 ^ n
+    → ((k : ℕ) → k < n → bit map k ≡ true → bit x k ≡ bit v (below k map))
+    → ((k : ℕ) → bit map k ≡ false → bit x k ≡ false)
+    → x ≡ expanded n map v
 expanded-only n map v x h named other = bits-same n x (expanded n map v) h (expanded-lt n map v) (λ k l. go k l (bit map k) refl)
   where
     go : (k : ℕ) → k < n → (b : Bool) → bit map k ≡ b → bit x k ≡ bit (expanded n map v) k

@@ -27,7 +27,12 @@ sized {r} {n} {found} {bit} e h =
     (f, omega (arith, f, size-le bit n))
 
 -- the four value bytes, found one by one
-pub packed : (s : List ℕ) (n at : ℕ) {r a b c d : ℕ} → r ≡ longOf a b c d → a ≡ field8 s (ltb 0 n) (at + 0) → b ≡ field8 s (ltb 1 n) (at + 1) → c ≡ field8 s (ltb 2 n) (at + 2) → d ≡ field8 s (ltb 3 n) (at + 3) → r ≡ packedAt s n at
+pub packed : (s : List ℕ) (n at : ℕ) {r a b c d : ℕ} → r ≡ longOf a b c d
+    → a ≡ field8 s (ltb 0 n) (at + 0)
+    → b ≡ field8 s (ltb 1 n) (at + 1)
+    → c ≡ field8 s (ltb 2 n) (at + 2)
+    → d ≡ field8 s (ltb 3 n) (at + 3)
+    → r ≡ packedAt s n at
 packed s n at e p q u v = rw (e, p, q, u, v, add-zero at)
 
 -- where each field lies
@@ -45,11 +50,13 @@ inside s h =
     record { map-in = omega arith; component-in = omega arith; minute-in = omega arith; number-in = omega arith; named-in = omega arith; values-in = h }
 
 -- the mark map, found at its place, and the length that it gives
-pub named-found : (s : List ℕ) {r at : ℕ} {b : Bool} → r ≡ field32 s b at → b ≡ has (mapOf s) 3 → at ≡ namedAt (mapOf s) → r ≡ namedOf s
+pub named-found : (s : List ℕ) {r at : ℕ} {b : Bool} → r ≡ field32 s b at → b ≡ has (mapOf s) 3 → at ≡ namedAt (mapOf s)
+    → r ≡ namedOf s
 unfolding namedOf
 named-found s e p q = e ∙ ap₂ (λ (b : Bool) (at : ℕ). field32 s b at) p q
 
-pub length-found : (s : List ℕ) {values n named : ℕ} → values ≡ valuesAt (mapOf s) → n ≡ valueBytes named → named ≡ namedOf s → values + n ≡ lengthOf s
+pub length-found : (s : List ℕ) {values n named : ℕ} → values ≡ valuesAt (mapOf s) → n ≡ valueBytes named → named ≡ namedOf s
+    → values + n ≡ lengthOf s
 unfolding lengthOf
 length-found s p q e = ap₂ (λ (x y : ℕ). x + y) p (q ∙ ap (λ (x : ℕ). valueBytes x) e)
 
@@ -82,5 +89,6 @@ pub told : (s : List ℕ) {found shown : Length} → found ≡ measured s → fo
 told s e q = subst (Told s) (sym e ∙ q) (tells s)
 
 -- the answer that the code puts together
-pub accepted : {f g : Fields} {e : Event} → e ≡ eventIn f → f ≡ g → record { answer = Accepted; component = f .component; event = e } ≡ acceptedWith g
+pub accepted : {f g : Fields} {e : Event} → e ≡ eventIn f → f ≡ g
+    → record { answer = Accepted; component = f .component; event = e } ≡ acceptedWith g
 accepted p q = rw (p, q)

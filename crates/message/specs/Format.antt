@@ -1,6 +1,6 @@
 -- 01, "The slip", as functions of the bytes. Each definition opens with its sentence.
 use Prim.Native.Nat.{ℕ, _+_, _/_, _^_}
-use mathlib.Core.Bool.{Bool, cond, _&&_}
+use mathlib.Core.Bool.{Bool, true, false, cond, _&&_}
 use mathlib.Core.List.{List, [], _∷_}
 use lib.Dec.{eqb, ltb, leb}
 use lib.ListN.{getD, length}
@@ -134,12 +134,13 @@ message-checks z s =
 unfoldable pub answerOf : Sizes → List ℕ → Answer
 answerOf z s = first-failed (message-checks z s)
 
--- "A slip read is either an observation or an alive"
+-- "A slip read is either an observation or an alive": bit 4 tells which
+abbrev pub event-if : Bool → Fields → Event
+event-if true f = Alive (f .minute) (f .number)
+event-if false f = Observation (f .minute) (f .number) (f .named) (expanded 32 (f .named) (f .packed))
+
 unfoldable pub eventIn : Fields → Event
-eventIn f =
-    cond (has (f .map) 4)
-    (Alive (f .minute) (f .number))
-    (Observation (f .minute) (f .number) (f .named) (expanded 32 (f .named) (f .packed)))
+eventIn f = event-if (has (f .map) 4) f
 
 abbrev pub eventOf : List ℕ → Event
 eventOf s = eventIn (fieldsOf s)

@@ -68,7 +68,8 @@ pub decodes : (z : Sizes) (s : List ℕ) (a : Answer) → answerOf z s ≡ a →
 unfolding decodeOf
 decodes z s a e = ap (λ (x : Answer). withAnswer x s) e
 
-pub decoded : (z : Sizes) (s : List ℕ) → Well-formed z s → decodeOf z s ≡ record { answer = Accepted; component = meaningOf s .component; event = meaningOf s .event }
+pub decoded : (z : Sizes) (s : List ℕ) → Well-formed z s
+    → decodeOf z s ≡ record { answer = Accepted; component = meaningOf s .component; event = meaningOf s .event }
 unfolding decodeOf meaningOf fieldsOf
 decoded z s w = ap (λ (a : Answer). withAnswer a s) w
 
@@ -82,7 +83,8 @@ decoded-answer z s = go (answerOf z s)
 
 -- ---- the ranges of a well-formed message
 
-event-fits : (z : Sizes) → z .propositions ≤ 32 → {component minute number named packed : ℕ} {e : Event} → Is-event z component minute number named packed e
+event-fits : (z : Sizes) → z .propositions ≤ 32 → {component minute number named packed : ℕ} {e : Event}
+    → Is-event z component minute number named packed e
     → (component < z .components) × Fits-event z e
 event-fits z few (is-alive component minute number c t) = (c, t)
 event-fits z few (is-observation component minute number named packed values c t n marks spare v) = (

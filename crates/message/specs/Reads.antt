@@ -23,11 +23,11 @@ use Rattle.policy.specs.declared.Sizes.{Sizes}
 use Rattle.message.specs.declared.Fields.{Fields}
 use Rattle.message.specs.declared.Event.{Event}
 use Rattle.message.specs.declared.Event.the-variants.{Observation, Alive}
-use Rattle.message.specs.Format.{widths, mapOf, valuesAt, componentOf, minuteOf, numberOf, namedOf, valueBytes, packedAt, packedOf, fieldsOf, lengthOf, goodAlive, goodObservation, allWritten, goodFields, goodMessage, message-checks, answerOf, eventIn}
+use Rattle.message.specs.Format.{widths, mapOf, valuesAt, componentOf, minuteOf, numberOf, namedOf, valueBytes, packedAt, packedOf, fieldsOf, lengthOf, goodAlive, goodObservation, allWritten, goodFields, goodMessage, message-checks, answerOf, event-if, eventIn}
 use Rattle.message.specs.Encoded.{Values, Is-event, is-observation, is-alive, is-alive-event, bytes-at, Is-message}
 use Rattle.message.specs.Fixes.{Message, meaningOf}
 
-pub both : (a b : Bool) → (a && b) ≡ true → (a ≡ true) × (b ≡ true)
+both : (a b : Bool) → (a && b) ≡ true → (a ≡ true) × (b ≡ true)
 both true true e = (refl, refl)
 both true false e = (refl, e)
 both false b e = absurd (false≢true e)
@@ -56,7 +56,9 @@ read-numbers s = fun-ext go
     go (suc (suc (suc zero))) = refl
     go (suc (suc (suc (suc k)))) = absent (has (mapOf s) (suc (suc (suc (suc k)))))
 
-none-zero : (s : List ℕ) → allWritten (fieldsOf s) ≡ true → (k : ℕ) → k < length widths → written (has (mapOf s) k) (field widths s 0 k) ≡ true
+-- none of them is written as 0
+none-zero : (s : List ℕ) → allWritten (fieldsOf s) ≡ true
+    → (k : ℕ) → k < length widths → written (has (mapOf s) k) (field widths s 0 k) ≡ true
 unfolding allWritten fieldsOf componentOf minuteOf numberOf namedOf
 none-zero s e k h =
     let component = both (written (has (mapOf s) 0) (field widths s 0 0)) _ e in
@@ -75,7 +77,8 @@ none-zero s e k h =
     go (suc (suc (suc (suc k)))) l p q u v = absurd (omega arith)
 
 -- where the fields of a layout end
-extent-of : (ws s : List ℕ) (at : ℕ) (v : ℕ → ℕ) → Laid ws s at v → start ws (getD s at 0) at (length ws) ≡ follows ws v at (length ws)
+extent-of : (ws s : List ℕ) (at : ℕ) (v : ℕ → ℕ) → Laid ws s at v
+    → start ws (getD s at 0) at (length ws) ≡ follows ws v at (length ws)
 extent-of ws s at v l = go (length ws) (λ k h. l .bits k h)
   where
     go : (n : ℕ) → ((k : ℕ) → k < n → (has (getD s at 0) k ≡ true) ↔ (v k ≢ 0)) → start ws (getD s at 0) at n ≡ follows ws v at n
@@ -117,13 +120,14 @@ event-kind : (f : Fields) → has (f .map) 4 ≡ is-alive-event (eventIn f)
 unfolding eventIn
 event-kind f = go (has (f .map) 4)
   where
-    go : (b : Bool) → b ≡ is-alive-event (cond b (Alive (f .minute) (f .number)) (Observation (f .minute) (f .number) (f .named) (expanded 32 (f .named) (f .packed))))
+    go : (b : Bool) → b ≡ is-alive-event (event-if b f)
     go true = refl
     go false = refl
 
 module _ (z : Sizes) where
   -- fields that pass the rules are an event; an alive one has no values
-  good-event : (f : Fields) → (f .named ≡ 0 → f .packed ≡ 0) → goodFields z f ≡ true → Is-event z (f .component) (f .minute) (f .number) (f .named) (f .packed) (eventIn f)
+  good-event : (f : Fields) → (f .named ≡ 0 → f .packed ≡ 0) → goodFields z f ≡ true
+      → Is-event z (f .component) (f .minute) (f .number) (f .named) (f .packed) (eventIn f)
   unfolding goodFields goodAlive goodObservation eventIn
   good-event f empty g =
       let map = both (ltb (f .map) 32) _ g in
@@ -132,7 +136,7 @@ module _ (z : Sizes) where
       go (has (f .map) 4) (ltb-true _ _ (component .0)) (component .1)
     where
       go : (b : Bool) → f .component < z .components → cond b (goodAlive z f) (goodObservation z f) ≡ true
-          → Is-event z (f .component) (f .minute) (f .number) (f .named) (f .packed) (cond b (Alive (f .minute) (f .number)) (Observation (f .minute) (f .number) (f .named) (expanded 32 (f .named) (f .packed))))
+          → Is-event z (f .component) (f .minute) (f .number) (f .named) (f .packed) (event-if b f)
       go true c e =
           let named = both (eqb (f .named) 0) _ e in
           let zero-named : f .named ≡ 0 = eqb-true _ _ (named .0) in
@@ -141,7 +145,10 @@ module _ (z : Sizes) where
           let minute = both (ltb (f .minute) (z .minutes)) _ e in
           let number = both (leb 1 (f .number)) _ (minute .1) in
           let named = both (ltb (f .named) (2 ^ z .propositions)) _ (number .1) in
-          is-observation (f .component) (f .minute) (f .number) (f .named) (f .packed) (expanded 32 (f .named) (f .packed)) c (ltb-true _ _ (minute .0)) (leb-true _ _ (number .0))
+          is-observation (f .component) (f .minute) (f .number) (f .named) (f .packed) (expanded 32 (f .named) (f .packed))
+          c
+          (ltb-true _ _ (minute .0))
+          (leb-true _ _ (number .0))
           (bits-below (z .propositions) (f .named) .0 (ltb-true _ _ (named .0)))
           (bits-below (below 32 (f .named)) (f .packed) .0 (ltb-true _ _ (named .1)))
           (its-values (f .named) (f .packed))
@@ -161,8 +168,11 @@ module _ (z : Sizes) where
     same = rw k;
   }
   event-good map m k w (is-observation component minute number named packed values c t n marks spare v) = record {
-    rules = and (lt-ltb map 32 m) (and w (and (lt-ltb component (z .components) c) (rw k (and (lt-ltb minute (z .minutes) t) (and (le-leb 1 number n)
-        (and (lt-ltb named (2 ^ z .propositions) (bits-below (z .propositions) named .1 marks)) (lt-ltb packed (2 ^ below 32 named) (bits-below (below 32 named) packed .1 spare))))))));
+    rules = and (lt-ltb map 32 m) (and w (and (lt-ltb component (z .components) c) (rw k
+        (and (lt-ltb minute (z .minutes) t)
+        (and (le-leb 1 number n)
+        (and (lt-ltb named (2 ^ z .propositions) (bits-below (z .propositions) named .1 marks))
+        (lt-ltb packed (2 ^ below 32 named) (bits-below (below 32 named) packed .1 spare))))))));
     same = rw k (ap (λ (x : ℕ). Observation minute number named x) (sym (only-values named packed values v)));
   }
 
