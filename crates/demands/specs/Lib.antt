@@ -6,3 +6,4 @@ pub mod Causes
 pub mod Looks
 pub mod Proved
 pub mod Small
+pub mod Past

@@ -23,32 +23,13 @@ use Rattle.monitor.specs.declared.Verdict.{Verdict}
 use Rattle.monitor.specs.declared.Verdict.the-variants.{Unknown, Satisfied, Violated}
 use Rattle.monitor.specs.declared.Look.{Look}
 use Rattle.monitor.specs.declared.Look.the-variants as L
-use Rattle.monitor.specs.Lookup.{verdict-code, verdictOf, show-unless, sheet-checks, look-checks, lookupOf}
+use Rattle.monitor.specs.Lookup.{verdictOf, show-unless, sheet-checks, look-checks, lookupOf}
+use Rattle.monitor.specs.Codes.{code-of-kept, code-of-broken, code-of-blank}
 use Rattle.monitor.specs.Demands.{sizesOf, Policy-passed, look-reply, On-sheet, code, Look-causes}
 use Rattle.demands.specs.Causes.{via, back, same, both-ways, at-zero-two, at-zero-three, one-fails, one-passes, one-number, decided, passed-policy, policy-part, after-policy}
 
--- ---- what a code reads as
-
 same-verdict : (v w : Verdict) → L.Shows v ≡ L.Shows w → v ≡ w
 same-verdict v w e = cc
-
-code-of-kept : (n : ℕ) → (verdictOf n ≡ Satisfied) ↔ (n ≡ 1)
-code-of-kept zero = (λ e. let z : _≡_ {A = ℕ} 0 1 = ap verdict-code e in absurd (omega arith), λ e. absurd (omega arith))
-code-of-kept (suc zero) = (λ e. refl, λ e. refl)
-code-of-kept (suc (suc zero)) = (λ e. let z : _≡_ {A = ℕ} 2 1 = ap verdict-code e in absurd (omega arith), λ e. absurd (omega arith))
-code-of-kept (suc (suc (suc n))) = (λ e. let z : _≡_ {A = ℕ} 0 1 = ap verdict-code e in absurd (omega arith), λ e. absurd (omega arith))
-
-code-of-broken : (n : ℕ) → (verdictOf n ≡ Violated) ↔ (n ≡ 2)
-code-of-broken zero = (λ e. let z : _≡_ {A = ℕ} 0 2 = ap verdict-code e in absurd (omega arith), λ e. absurd (omega arith))
-code-of-broken (suc zero) = (λ e. let z : _≡_ {A = ℕ} 1 2 = ap verdict-code e in absurd (omega arith), λ e. absurd (omega arith))
-code-of-broken (suc (suc zero)) = (λ e. refl, λ e. refl)
-code-of-broken (suc (suc (suc n))) = (λ e. let z : _≡_ {A = ℕ} 0 2 = ap verdict-code e in absurd (omega arith), λ e. absurd (omega arith))
-
-code-of-blank : (n : ℕ) → (verdictOf n ≡ Unknown) ↔ ((n ≢ 1) × (n ≢ 2))
-code-of-blank zero = (λ e. (λ q. omega arith, λ q. omega arith), λ e. refl)
-code-of-blank (suc zero) = (λ e. let z : _≡_ {A = ℕ} 1 0 = ap verdict-code e in absurd (omega arith), λ e. absurd (e .0 refl))
-code-of-blank (suc (suc zero)) = (λ e. let z : _≡_ {A = ℕ} 2 0 = ap verdict-code e in absurd (omega arith), λ e. absurd (e .1 refl))
-code-of-blank (suc (suc (suc n))) = (λ e. (λ q. omega arith, λ q. omega arith), λ e. refl)
 
 -- ---- the answers
 

@@ -19,17 +19,10 @@ use Rattle.policy.specs.Format.{policy-checks, answerOf, policyOf}
 use Rattle.policy.specs.declared.Policy.{Policy}
 use Rattle.policy.specs.Proper.{Proper}
 use Rattle.monitor.specs.declared.Verdict.{Verdict}
-use Rattle.monitor.specs.declared.Verdict.the-variants.{Unknown}
 use Rattle.monitor.specs.declared.Look.{Look}
 use Rattle.monitor.specs.declared.Look.the-variants.{Shows, Refused}
 use Rattle.monitor.specs.Lookup.{verdictOf, show-unless, sheet-checks, code-at, look-at, lookupOf}
 use Rattle.monitor.proofs.Decoding.{Read}
-
-pub blank : (n : ℕ) → (n ≡ 1 → ⊥) → (n ≡ 2 → ⊥) → Unknown ≡ verdictOf n
-blank zero h k = refl
-blank (suc zero) h k = absurd (h refl)
-blank (suc (suc zero)) h k = absurd (k refl)
-blank (suc (suc (suc n))) h k = refl
 
 module _ (p : Policy) (v : List ℕ) (r t : ℕ) where
   pub wrong-size : (length v ≡ p .rules * p .sizes .minutes → ⊥) → Refused BufferSize ≡ look-at p v r t

@@ -2,5 +2,6 @@
 pub mod State
 pub mod Checked
 pub mod Lookup
+pub mod Codes
 pub mod Demands
 pub mod Laws
