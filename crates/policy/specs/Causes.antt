@@ -14,7 +14,7 @@ use Rattle.refusal.specs.declared.Answer.the-variants.{Refused}
 use Rattle.refusal.specs.Numbers.{numberOf}
 use Rattle.refusal.specs.Checks.{Check, Passed, none, pass, Refuses, here, there}
 use Rattle.refusal.specs.Laws.{refusal-law, passing-law, refused-first, refused-later, refused-where, passed-both, passed-parts}
-use Rattle.policy.specs.Encoded.{Between}
+use Rattle.policy.specs.Encoded.{Rules-in}
 use Rattle.policy.specs.Format.{countOf, fieldsAt, goodLine, offset, rulesUpTo, heading-checks, line-checks, lines-checks, closing-checks, policy-checks, answerOf}
 use Rattle.policy.specs.Proper.{Headed, Some-line, Fine, Fine-before, Whole, Cause, heading-cut, line-cut, bytes-follow, propositions-out, components-out, minutes-out, lines-out, line-bad, rules-out, Causes}
 use Rattle.policy.specs.Ranges.{in-between, between-in, not-between, outside, fails, denies}
@@ -121,7 +121,7 @@ module _ (s : List ℕ) where
   refuses r (rules-out w n) =
       in-closing (w .headed .long) (heading-passes (w .headed)) _ (lines-pass (countOf s) (w .lines)) (there (eq-eqb _ _ (w .ends)) (here (outside _ _ _ n)))
 
-  passes : Whole s × Between 1 8 (rulesUpTo s (countOf s)) → Passed (policy-checks s)
+  passes : Whole s × Rules-in (rulesUpTo s (countOf s)) → Passed (policy-checks s)
   unfolding closing-checks
   passes w =
       let h = w .0 .headed in
@@ -159,11 +159,11 @@ module _ (s : List ℕ) where
     of-closing r p (there e (here n)) = rules-out (record { headed = h; lines = all-fine (countOf s) p; ends = eqb-true _ _ e }) (not-between _ _ _ n)
 
     -- every test passed
-    of-passed : Passed (lines ++ closing) → Whole s × Between 1 8 (rulesUpTo s (countOf s))
+    of-passed : Passed (lines ++ closing) → Whole s × Rules-in (rulesUpTo s (countOf s))
     unfolding closing-checks
     of-passed q = let c = passed-parts lines closing q in go (c .0) (c .1)
       where
-        go : Passed lines → Passed closing → Whole s × Between 1 8 (rulesUpTo s (countOf s))
+        go : Passed lines → Passed closing → Whole s × Rules-in (rulesUpTo s (countOf s))
         go l (pass e (pass r none)) = (record { headed = h; lines = all-fine (countOf s) l; ends = eqb-true _ _ e }, in-between _ _ _ r)
 
   cause : (r : Refusal) → Refuses (policy-checks s) r → Cause s r
@@ -177,7 +177,7 @@ module _ (s : List ℕ) where
       ⊎-elim (of-lines g (countOf s) r (omega arith)) (λ (q : Passed lines × Refuses closing r). of-closing g r (q .0) (q .1)) (refused-where lines closing r (p .1)))
       (refused-where (heading-checks s) (lines ++ closing) r q)
 
-  whole : Passed (policy-checks s) → Whole s × Between 1 8 (rulesUpTo s (countOf s))
+  whole : Passed (policy-checks s) → Whole s × Rules-in (rulesUpTo s (countOf s))
   unfolding policy-checks
   whole (pass h q) = let p = passed-parts (heading-checks s) (lines ++ closing) q in of-passed (headed (leb-true 5 (length s) h) (p .0)) (p .1)
 
@@ -198,7 +198,7 @@ module _ (s : List ℕ) where
         accepted = (λ e. whole (passing-law (policy-checks s) .0 e), λ w. passing-law (policy-checks s) .1 (passes w));
       }
     where
-      rules-told : Cause s RuleCount → Whole s × (Between 1 8 (rulesUpTo s (countOf s)) → ⊥)
+      rules-told : Cause s RuleCount → Whole s × (Rules-in (rulesUpTo s (countOf s)) → ⊥)
       rules-told (rules-out w n) = (w, n)
 
   -- the policy's reader answers 1 to 4 only

@@ -27,6 +27,10 @@ Minutes-in n = Between 1 1024 n
 abbrev pub Lines-in : ℕ → Type 0
 Lines-in n = Between 1 64 n
 
+-- "One to eight lines are rules"
+abbrev pub Rules-in : ℕ → Type 0
+Rules-in n = Between 1 8 n
+
 pub record Is-heading (propositions components minutes lines : ℕ) : Type 0 where
   pub propositions-in : Propositions-in propositions
   pub components-in : Components-in components
@@ -83,4 +87,4 @@ pub record Is-policy (s : List ℕ) : Type 0 where
   pub line : (i : ℕ) → i < getD s 4 0 → Line-at s (getD s 0 0) i (at i) (lines i)
   pub next : (i : ℕ) → i < getD s 4 0 → at (suc i) ≡ follows widths (numbers (lines i)) (at i) (length widths)
   pub ends : at (getD s 4 0) ≡ length s
-  pub rules : Between 1 8 (rules-in lines (getD s 4 0))
+  pub rules : Rules-in (rules-in lines (getD s 4 0))

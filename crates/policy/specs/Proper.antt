@@ -11,7 +11,7 @@ use Rattle.refusal.specs.declared.Refusal.{Refusal}
 use Rattle.refusal.specs.declared.Refusal.the-variants.{TruncatedPolicy, BadHeading, BadSubformula, RuleCount}
 use Rattle.policy.specs.declared.Policy.{Policy}
 use Rattle.refusal.specs.declared.Answer.the-variants.{Accepted, Refused}
-use Rattle.policy.specs.Encoded.{Is-heading, Propositions-in, Components-in, Minutes-in, Lines-in, Line, Line-at}
+use Rattle.policy.specs.Encoded.{Is-heading, Propositions-in, Components-in, Minutes-in, Lines-in, Rules-in, Line, Line-at}
 pub use Rattle.policy.specs.Encoded.{Between}
 use Rattle.policy.specs.Format.{noLine, ruleLines, countOf, offset, rulesUpTo, answerOf}
 
@@ -29,7 +29,7 @@ pub record Proper (p : Policy) : Type 0 where
   pub components : Components-in (p .sizes .components)
   pub minutes : Minutes-in (p .sizes .minutes)
   pub count : Lines-in (p .count)
-  pub rules : Between 1 8 (p .rules)
+  pub rules : Rules-in (p .rules)
   pub rules-counted : length (rulesOf p) ≡ p .rules
   pub table : length (p .subformulas) ≡ 64
   pub earlier : Earlier (formulaAt p)
@@ -72,7 +72,7 @@ pub data Cause (s : List ℕ) : Refusal → Type 0 where
   -- 3: a line that has all its bytes and breaks a rule, those before it being fine
   line-bad : (i : ℕ) → Headed s → i < countOf s → Fine-before s i → offset s (suc i) ≤ length s → (Some-line s i → ⊥) → Cause s (BadSubformula (offset s i))
   -- 4: no rule, or more than 8
-  rules-out : Whole s → (Between 1 8 (rulesUpTo s (countOf s)) → ⊥) → Cause s RuleCount
+  rules-out : Whole s → (Rules-in (rulesUpTo s (countOf s)) → ⊥) → Cause s RuleCount
 
 abbrev pub Cut : List ℕ → ℕ → Type 0
 Cut s at = Cause s (TruncatedPolicy at)
@@ -88,5 +88,5 @@ pub record Causes (s : List ℕ) : Type 0 where
   pub one : (at : ℕ) → (answerOf s ≡ Refused (TruncatedPolicy at)) ↔ Cut s at
   pub two : (at : ℕ) → (answerOf s ≡ Refused (BadHeading at)) ↔ Misheaded s at
   pub three : (at : ℕ) → (answerOf s ≡ Refused (BadSubformula at)) ↔ Misformed s at
-  pub four : (answerOf s ≡ Refused RuleCount) ↔ (Whole s × (Between 1 8 (rulesUpTo s (countOf s)) → ⊥))
-  pub accepted : (answerOf s ≡ Accepted) ↔ (Whole s × Between 1 8 (rulesUpTo s (countOf s)))
+  pub four : (answerOf s ≡ Refused RuleCount) ↔ (Whole s × (Rules-in (rulesUpTo s (countOf s)) → ⊥))
+  pub accepted : (answerOf s ≡ Accepted) ↔ (Whole s × Rules-in (rulesUpTo s (countOf s)))

@@ -1,8 +1,11 @@
--- A test of a range says that the number is in it; a test that decides a claim fails where the claim doesn't hold. Assumes nothing.
-use Prim.Native.Nat.{ℕ}
+-- A test of a range says that the number is in it; a test that decides a claim fails where the claim doesn't hold; what never falls. Assumes
+-- nothing.
+use Prim.Native.Nat.{ℕ, zero, suc, _≤_, _<_}
 use mathlib.Core.Path.{_≡_, refl, sym, _∙_}
 use mathlib.Core.Bool.{Bool, true, false, true≢false}
-use mathlib.Core.Logic.{_↔_}
+use mathlib.Core.Logic.{_↔_, ⊎-elim}
+use native.Mathlib.Omega.{arith}
+use native.Mathlib.Nat.{eq-or-lt-of-le}
 use borrow.Author.Tests.{leb-true, le-leb}
 use lib.Dec.{leb}
 use Rattle.mtl.specs.Folds.{both, pair}
@@ -15,6 +18,13 @@ fails false law n = refl
 
 pub denies : {P : Type 0} (b : Bool) → (b ≡ true) ↔ P → b ≡ false → P → ⊥
 denies b law e p = true≢false (sym (law .1 p) ∙ e)
+
+-- what never falls from one number to the next is least at the first
+pub never-falls : (f : ℕ → ℕ) → ((i : ℕ) → f i ≤ f (suc i)) → (n i : ℕ) → i ≤ n → f i ≤ f n
+never-falls f step zero zero h = omega arith
+never-falls f step zero (suc i) h = absurd (omega arith)
+never-falls f step (suc n) i h =
+    ⊎-elim (λ (e : i ≡ suc n). rw e (omega arith)) (λ (l : i < suc n). omega (arith, never-falls f step n i (omega arith), step n)) (eq-or-lt-of-le h)
 
 module _ (least most n : ℕ) where
   pub in-between : within least most n ≡ true → Between least most n

@@ -3,25 +3,30 @@
 use Prim.Native.Nat.{ℕ, zero, suc, _+_, _≤_, _<_}
 use mathlib.Core.Path.{_≡_, refl, sym, ap, subst, _∙_}
 use mathlib.Core.Bool.{Bool}
-use mathlib.Core.Logic.{_↔_, ⊎-elim}
+use mathlib.Core.Logic.{_↔_}
 use mathlib.Core.List.{List}
 use native.Mathlib.Omega.{arith}
-use native.Mathlib.Nat.{eq-or-lt-of-le}
 use lib.ListN.{getD, length}
 use Rattle.encoding.specs.Fields.{has, size}
 use Rattle.encoding.specs.Layout.{extent}
 use Rattle.encoding.specs.Laws.{laid-extent}
 use Rattle.refusal.specs.declared.Answer.the-variants.{Accepted}
 use Rattle.policy.specs.declared.Subformula.{Subformula}
-use Rattle.policy.specs.Encoded.{Between, Line, widths, numbers, Line-at, rules-in, Is-policy}
+use Rattle.policy.specs.Encoded.{Rules-in, Line, widths, numbers, Line-at, rules-in, Is-policy}
 use Rattle.policy.specs.Format.{lineLength, fieldsAt, subformulaOf, subformulaAt, countOf, offset, noLine, rulesUpTo, answerOf, policyOf}
 use Rattle.policy.specs.Proper.{Whole}
+use Rattle.policy.specs.Ranges.{never-falls}
 use Rattle.policy.specs.Stands.{lineOf, only}
 use Rattle.policy.specs.Table.{line-at}
 use Rattle.policy.specs.Causes.{causes}
 
 module _ (s : List ℕ) where
   -- ---- accepted bytes are a card
+
+  rules-read : (n : ℕ) → rulesUpTo s n ≡ rules-in (λ i. lineOf (fieldsAt s (offset s i))) n
+  unfolding rulesUpTo fieldsAt
+  rules-read zero = refl
+  rules-read (suc n) = ap (λ (k : ℕ). k + size (has (getD s (offset s n) 0) 5) 1) (rules-read n)
 
   module _ (w : Whole s) where
     -- the line that is read stands there
@@ -30,12 +35,7 @@ module _ (s : List ℕ) where
         let l = w .lines i h .1 in
         subst (Line-at s (getD s 0 0) i (offset s i)) (only s (getD s 0 0) i (offset s i) (l .0) (l .1)) (l .1)
 
-    rules-read : (n : ℕ) → rulesUpTo s n ≡ rules-in (λ i. lineOf (fieldsAt s (offset s i))) n
-    unfolding rulesUpTo fieldsAt
-    rules-read zero = refl
-    rules-read (suc n) = ap (λ (k : ℕ). k + size (has (getD s (offset s n) 0) 5) 1) (rules-read n)
-
-    is-policy : Between 1 8 (rulesUpTo s (countOf s)) → Is-policy s
+    is-policy : Rules-in (rulesUpTo s (countOf s)) → Is-policy s
     unfolding offset lineLength
     is-policy r =
         record {
@@ -46,16 +46,14 @@ module _ (s : List ℕ) where
           line = line-read;
           next = λ i h. laid-extent widths s (offset s i) _ (line-read i h .laid);
           ends = w .ends;
-          rules = subst (Between 1 8) (rules-read (countOf s)) r;
+          rules = subst Rules-in (rules-read (countOf s)) r;
         }
 
   -- ---- a card is accepted
 
   grows : (n i : ℕ) → i ≤ n → offset s i ≤ offset s n
   unfolding offset
-  grows zero zero h = omega arith
-  grows zero (suc i) h = absurd (omega arith)
-  grows (suc n) i h = ⊎-elim (λ (e : i ≡ suc n). rw e (omega arith)) (λ (l : i < suc n). omega (arith, grows n i (omega arith))) (eq-or-lt-of-le h)
+  grows = never-falls (offset s) (λ i. omega arith)
 
   module _ (p : Is-policy s) where
     places : (i : ℕ) → i ≤ countOf s → p .at i ≡ offset s i
@@ -93,7 +91,7 @@ module _ (s : List ℕ) where
   pub accepts : (answerOf s ≡ Accepted) ↔ Is-policy s
   accepts = (
     λ e. let w = causes s .accepted .0 e in is-policy (w .0) (w .1),
-    λ p. causes s .accepted .1 (whole p, subst (Between 1 8) (rules-stood p (countOf s) (omega arith)) (p .rules)),
+    λ p. causes s .accepted .1 (whole p, subst Rules-in (rules-stood p (countOf s) (omega arith)) (p .rules)),
   )
 
   pub reads : (p : Is-policy s) (i : ℕ) → i < countOf s

@@ -3,11 +3,10 @@
 use Prim.Native.Nat.{ℕ, zero, suc, _+_, _≤_, _<_}
 use mathlib.Core.Path.{_≡_, refl, sym, ap, subst, _∙_}
 use mathlib.Core.Bool.{Bool, true, false, cond}
-use mathlib.Core.Logic.{_↔_, ⊎-elim}
+use mathlib.Core.Logic.{_↔_}
 use mathlib.Core.List.{List, [], _∷_, _++_}
 use native.Mathlib.Omega.{arith}
 use native.Mathlib.Decide.{decLt}
-use native.Mathlib.Nat.{eq-or-lt-of-le}
 use lib.ListN.{getD, length, List·getD-append}
 use lib.Seq.{getD-at}
 use Rattle.encoding.specs.Fields.{has, size}
@@ -15,6 +14,7 @@ use Rattle.refusal.specs.declared.Answer.the-variants.{Accepted}
 use Rattle.policy.specs.declared.Subformula.{Subformula}
 use Rattle.policy.specs.Format.{lineLength, fieldsAt, keepsKind, goodLine, meaning, formulaOf, subformulaOf, subformulaAt, countOf, offset, heading-checks, line-checks, lines-checks, linesUpTo, noLine, subformulasOf, ruleLines, rulesUpTo, closing-checks, policy-checks, answerOf, policyOf}
 use Rattle.policy.specs.Proper.{rulesOf}
+use Rattle.policy.specs.Ranges.{never-falls}
 use Rattle.policy.specs.Table.{line-at, rules-counted}
 
 -- line i, one of the first n, has bit 5 and exactly r such lines before it
@@ -54,9 +54,7 @@ module _ (s : List ℕ) where
 
   grows : (n i : ℕ) → i ≤ n → rulesUpTo s i ≤ rulesUpTo s n
   unfolding rulesUpTo
-  grows zero zero h = omega arith
-  grows zero (suc i) h = absurd (omega arith)
-  grows (suc n) i h = ⊎-elim (λ (e : i ≡ suc n). rw e (omega arith)) (λ (l : i < suc n). omega (arith, grows n i (omega arith))) (eq-or-lt-of-le h)
+  grows = never-falls (rulesUpTo s) (λ i. omega arith)
 
   -- a line after a rule has more rules before it
   not-after : (n r i j : ℕ) → Is-rule s n r i → Is-rule s n r j → i < j → ⊥

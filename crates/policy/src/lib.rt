@@ -18,9 +18,10 @@ ghost use Rattle.refusal.specs.Checks.{first-failed};
 ghost use Rattle.policy.specs.Format.{lineLength, fieldsAt, allowed, operandsGood, keepsKind, goodLine, formulaOf, subformulaOf, within, heading-checks, sizesOf, blank, withAnswer, closing-checks, decodeOf};
 ghost use Rattle.policy.specs.Lines.{Scans};
 
-// The heading, and the ranges of its numbers (01: the card).
+// How many bytes the heading takes.
 const HEADING: usize = 5;
 
+// The most propositions, components, minutes, lines and rules of a policy, and the latest end of an interval.
 const MOST_PROPOSITIONS: usize = 32;
 
 const MOST_COMPONENTS: usize = 16;
@@ -33,7 +34,7 @@ const MOST_RULES: usize = 8;
 
 const MOST_UPPER: u16 = 1023;
 
-// The bits of a line's map.
+// The weights of a map's bits: a field that is written, and a rule. Bits 6 and 7 are 0, so that a map is below SPARE.
 const HAS_KIND: u8 = 1;
 
 const HAS_FIRST: u8 = 2;
@@ -45,10 +46,10 @@ const HAS_LOWER: u8 = 8;
 const HAS_UPPER: u8 = 16;
 
 const IS_RULE: u8 = 32;
-// Bits 6 and 7 are 0: a map is below this.
+
 const SPARE: u8 = 64;
 
-// The kinds of a line.
+// The kinds of a line, but for the last, until.
 const TRUE: u8 = 0;
 
 const PROPOSITION: u8 = 1;
@@ -114,7 +115,7 @@ struct Kind {
     operands: Operands,
 }
 
-// True.
+// The row of true: no field besides kind.
 const CONSTANT: Kind = Kind {
     first: false,
     second: false,
@@ -123,7 +124,7 @@ const CONSTANT: Kind = Kind {
     operands: Operands::Nothing,
 };
 
-// A proposition.
+// The row of a proposition: first is its number.
 const ATOM: Kind = Kind {
     first: true,
     second: false,
@@ -132,7 +133,7 @@ const ATOM: Kind = Kind {
     operands: Operands::Proposition,
 };
 
-// Of one line.
+// The row of a kind with one earlier line.
 const UNARY: Kind = Kind {
     first: true,
     second: false,
@@ -141,7 +142,7 @@ const UNARY: Kind = Kind {
     operands: Operands::Line,
 };
 
-// Of two lines.
+// The row of a kind with two earlier lines.
 const BINARY: Kind = Kind {
     first: true,
     second: true,
@@ -150,7 +151,7 @@ const BINARY: Kind = Kind {
     operands: Operands::TwoLines,
 };
 
-// Of two lines and an interval.
+// The row of a kind with two earlier lines and an interval.
 const TEMPORAL: Kind = Kind {
     first: true,
     second: true,
@@ -159,7 +160,7 @@ const TEMPORAL: Kind = Kind {
     operands: Operands::TwoLines,
 };
 
-// The table of kinds, a row a kind.
+// The table of kinds, a row a kind: true, proposition, not, or, since, until.
 const KINDS: [Kind; 6] = [CONSTANT, ATOM, UNARY, BINARY, TEMPORAL, TEMPORAL];
 
 // The lines read: the answer, and where it is Accepted the place after them, how many are rules, and the table.
