@@ -21,7 +21,7 @@ use Rattle.policy.specs.Proper.{Proper}
 use Rattle.knowledge.specs.Knowledge.{Knowledge, is-point, is-none, point-known}
 use Rattle.valuation.specs.Sheets.{value, verdict, valuation-of, verdicts-of, standing}
 use Rattle.valuation.specs.Rows.{Points}
-use Rattle.valuation.specs.Verdicts.{verdict-code, VerdictRow}
+use Rattle.valuation.specs.Verdicts.{verdict-code, Verdict-row}
 use Rattle.valuation.proofs.Work.{cell, cell-at}
 use Rattle.valuation.proofs.Standing.{standing-append, standing-le}
 use Rattle.valuation.proofs.Rules.{rule-more, rule-skip, rule-under, rule-at}
@@ -47,7 +47,8 @@ pub record Concluded (p : Policy) (points valuation old : List ℕ) (i : ℕ) (n
   pub here : at ≡ before p i * p .sizes .minutes
   pub long : length new ≡ length old
   pub few : total ≤ at
-  pub written : (k : Knowledge) → Points (p .sizes) k points → take (p .count * p .sizes .minutes) valuation ≡ valuation-of p k → Over (verdict-cell p k) 0 at old new
+  pub written : (k : Knowledge) → Points (p .sizes) k points → take (p .count * p .sizes .minutes) valuation ≡ valuation-of p k
+      → Over (verdict-cell p k) 0 at old new
   pub counted : total ≡ standing (take at new)
 
 pub none-yet : (p : Policy) (points valuation old : List ℕ) → Concluded p points valuation old 0 old 0 0
@@ -85,7 +86,7 @@ module _ (p : Policy) (points valuation old new : List ℕ) (i total at : ℕ) (
         omega (arith, next-row (p .rules) (p .sizes .minutes) (before p i) r, c .here)
 
     module _ (row part run : List ℕ) (stand : ℕ) (from : row ≡ take (p .sizes .minutes) (drop (i * p .sizes .minutes) valuation))
-        (lent : part ≡ take (p .sizes .minutes) (drop at new)) (w : VerdictRow points row part run stand) where
+        (lent : part ≡ take (p .sizes .minutes) (drop at new)) (w : Verdict-row points row part run stand) where
       part-length : length part ≡ p .sizes .minutes
       part-length = ap length lent ∙ length-take-le (p .sizes .minutes) (drop at new) (simp length-drop (omega (arith, rule-fits)))
 
@@ -128,7 +129,9 @@ module _ (p : Policy) (points valuation old new : List ℕ) (i total at : ℕ) (
             counted =
                 ap₂ (λ (x y : ℕ). x + y) (c .counted) (w .counted)
                 ∙ sym (standing-append (take at new) run)
-                ∙ ap standing (sym (ap (take (at + m)) (sym (append-assoc (take at new) run (drop (at + m) new))) ∙ take-at (take at new ++ run) (drop (at + m) new) (at + m) (length-append (take at new) run ∙ omega (arith, front, run-length))));
+                ∙ ap standing
+                (sym (ap (take (at + m)) (sym (append-assoc (take at new) run (drop (at + m) new)))
+                ∙ take-at (take at new ++ run) (drop (at + m) new) (at + m) (length-append (take at new) run ∙ omega (arith, front, run-length))));
           }
 
 pub all-lines : (p : Policy) (points valuation old new : List ℕ) (i total at : ℕ) → Proper p → p .rules * p .sizes .minutes ≤ length old → i ≡ p .count

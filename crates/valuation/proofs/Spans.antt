@@ -116,12 +116,16 @@ module _ (w : World Truth) (α β : ℕ → Truth) (k : ℕ) (pos : 0 < k) (smal
     unfolding since
     since-reaches =
         record {
-          some = λ j p q a b. some-span (since-start upper t) (since-count lower upper t) suc (λ i. t - i) j p (omega arith) a (λ s l r. b s l (omega arith));
-          only = λ h. no-span (since-start upper t) (since-count lower upper t) suc (λ i. t - i) (λ j p q a b. h j p (omega arith) a (λ s l r. b s l (omega arith)));
+          some = λ j p q a b.
+              some-span (since-start upper t) (since-count lower upper t) suc (λ i. t - i) j p (omega arith) a (λ s l r. b s l (omega arith));
+          only = λ h.
+              no-span (since-start upper t) (since-count lower upper t) suc (λ i. t - i)
+              (λ j p q a b. h j p (omega arith) a (λ s l r. b s l (omega arith)));
         }
 
     -- an until is a since with time turned round
-    until-reaches : t + upper < far → Reaches k (turned (begun e β)) (turned (broken e α)) (far - 1 - (t + upper)) (far - (t + lower)) (far - t) (until three w α β lower upper t)
+    until-reaches : t + upper < far
+        → Reaches k (turned (begun e β)) (turned (broken e α)) (far - 1 - (t + upper)) (far - (t + lower)) (far - t) (until three w α β lower upper t)
     unfolding until
     until-reaches near =
         let lo = t + lower in
@@ -129,7 +133,8 @@ module _ (w : World Truth) (α β : ℕ → Truth) (k : ℕ) (pos : 0 < k) (smal
         record {
           some = λ i p q a b.
               let here = turned-in lo hi i near p q in
-              some-span (until-start lower t) (until-count lower upper) (λ _. t) (λ j. j - t) (far - 1 - i) (here .0) (interval lower upper t (far - 1 - i) .1 here .1) a
+              some-span (until-start lower t) (until-count lower upper) (λ _. t) (λ j. j - t)
+              (far - 1 - i) (here .0) (interval lower upper t (far - 1 - i) .1 here .1) a
               (λ s l r.
               let u = turned-under t i s l r in
               subst (λ (x : ℕ). broken e α x < 3 - k) (turned-back s (u .2)) (b (far - 1 - s) (u .0) (u .1)));
@@ -147,11 +152,14 @@ module _ (w : World Truth) (α β : ℕ → Truth) (k : ℕ) (pos : 0 < k) (smal
     pub since-test : (start : ℕ) → start ≡ t - upper → Last k (begun e β) (t + 1 - lower) begin → Last (3 - k) (broken e α) (t + 1) stop
         → (ltb start begin && leb stop begin) ≡ leb k (rank-of (since three w α β lower upper t))
     since-test start s A B =
-        decided k start (t + 1 - lower) (t + 1) begin stop (begun e β) (broken e α) (since three w α β lower upper t)
+        decided k start _ _ begin stop (begun e β) (broken e α) (since three w α β lower upper t)
         (rw s (since-reaches lower upper t)) A B (ltb start begin && leb stop begin) (both (less start begin) (most stop begin))
 
-    pub until-test : (end : ℕ) → end ≡ t + upper → end < far → Last k (turned (begun e β)) (far - (t + lower)) (far - begin) → Last (3 - k) (turned (broken e α)) (far - t) (far - stop)
+    pub until-test : (end : ℕ) → end ≡ t + upper → end < far → Last k (turned (begun e β)) (far - (t + lower)) (far - begin)
+        → Last (3 - k) (turned (broken e α)) (far - t) (far - stop)
         → (leb begin end && leb begin stop) ≡ leb k (rank-of (until three w α β lower upper t))
     until-test end s near A B =
-        decided k (far - 1 - end) (far - (t + lower)) (far - t) (far - begin) (far - stop) (turned (begun e β)) (turned (broken e α)) (until three w α β lower upper t)
-        (rw s (until-reaches lower upper t (rw s at near))) A B (leb begin end && leb begin stop) (same (turned-order begin end stop near .0) (turned-order begin end stop near .1) (both (most begin end) (most begin stop)))
+        let order = turned-order begin end stop near in
+        decided k (far - 1 - end) _ _ (far - begin) (far - stop) (turned (begun e β)) (turned (broken e α)) (until three w α β lower upper t)
+        (rw s (until-reaches lower upper t (rw s at near))) A B (leb begin end && leb begin stop)
+        (same (order .0) (order .1) (both (most begin end) (most begin stop)))

@@ -64,12 +64,12 @@ moved-turned k v here old r e = ap (λ (n : ℕ). far - n) e ∙ go (leb k v)
     go true = refl
     go false = refl
 
-pub firsts-step : (t v : ℕ) (f : ℕ → ℕ) → t < far → v ≡ f t → (p q : Nearest)
-    → (q .sure ≡ moved 2 v t (p .sure)) × (q .may ≡ moved 1 v t (p .may)) → Firsts f (t + 1) p → Firsts f t q
-firsts-step t v f near at p q m l =
-    let next : far - t ≡ far - (t + 1) + 1 = omega arith in
-    let same : t ≡ far - 1 - (far - (t + 1)) = omega arith in
-    lasts-step (far - (t + 1)) (far - t) v (turned f) next (at ∙ ap f same) (turned-nearest p) (turned-nearest q)
+pub firsts-step : (t after v : ℕ) (f : ℕ → ℕ) → after ≡ t + 1 → t < far → v ≡ f t → (p q : Nearest)
+    → (q .sure ≡ moved 2 v t (p .sure)) × (q .may ≡ moved 1 v t (p .may)) → Firsts f after p → Firsts f t q
+firsts-step t after v f e near at p q m l =
+    let next : far - t ≡ far - after + 1 = omega arith in
+    let same : t ≡ far - 1 - (far - after) = omega arith in
+    lasts-step (far - after) (far - t) v (turned f) next (at ∙ ap f same) (turned-nearest p) (turned-nearest q)
     (moved-turned 2 v t (p .sure) (q .sure) (m .0), moved-turned 1 v t (p .may) (q .may) (m .1)) l
 
 pub firsts-unknown : (f : ℕ → ℕ) (n : ℕ) → ((i : ℕ) → n ≤ i → f i ≡ 1) → Firsts f n (record { sure = far; may = n })

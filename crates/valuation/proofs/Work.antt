@@ -144,5 +144,6 @@ module _ (p : Policy) (proper : Proper p) (i : ℕ) (under : i < p .count) where
       let fits : at + m ≤ length new = omega (arith, next-row (p .count) m i under) in
       let long : length part ≡ m = ap length e ∙ length-take-le m (drop at new) (simp length-drop (omega arith)) in
       two (cell p k) (cell p k) 0 at (at + m) old new (take at new ++ (run ++ drop (at + m) new)) o
-      (put-in (cell p k) at m new run fits (w .long ∙ long) (λ t h. w .inside t (omega arith) (omega arith) ∙ row-cells p k (proper .earlier) i row r t h ∙ ap (λ (j : ℕ). cell p k (j + t)) (sym here)))
+      (put-in (cell p k) at m new run fits (w .long ∙ long)
+      (λ t h. w .inside t (omega arith) (omega arith) ∙ row-cells p k (proper .earlier) i row r t h ∙ ap (λ (j : ℕ). cell p k (j + t)) (sym here)))
       (omega arith) (omega arith) (λ j a b. refl)

@@ -17,6 +17,6 @@ abbrev pub one-stands : ℕ → ℕ
 one-stands v = cond (eqb v 0) 0 1
 
 -- the whole row is written, and the total is of what stands in it
-pub record VerdictRow (points row old new : List ℕ) (total : ℕ) : Type 0 where
+pub record Verdict-row (points row old new : List ℕ) (total : ℕ) : Type 0 where
   pub written : Over (λ t. verdict-code (getD points t 0) (getD row t 0)) 0 (length old) old new
   pub counted : total ≡ standing new

@@ -22,7 +22,7 @@ ghost use Rattle.knowledge.specs.Knowledge.{Knowledge, fact, world};
 ghost use Rattle.policy.specs.Proper.{Proper};
 ghost use Rattle.valuation.specs.Sheets.{valuation-of, verdicts-of, standing};
 ghost use Rattle.valuation.specs.Rows.{most-minutes, most-bound, Shows, Row, run, Rows, Points, Workable};
-ghost use Rattle.valuation.specs.Verdicts.{verdict-code, one-stands, VerdictRow};
+ghost use Rattle.valuation.specs.Verdicts.{verdict-code, one-stands, Verdict-row};
 ghost use Rattle.valuation.specs.Indexes.{ranked, begun, broken, Ranks, moved, far, Lasts, Firsts};
 
 // 01: a policy has 1 to 1,024 minutes.
@@ -429,7 +429,7 @@ fn stands(verdict: u8) -> usize
 // Writes the verdicts of one rule, whose row is given, and answers how many stand.
 fn verdict_row(points: &[u8], row: &[u8], verdicts: &mut [u8]) -> usize
     requires { ⌜ (length (now row) ≡ length (now verdicts)) × (length (now verdicts) ≤ length (now points)) ⌝ }
-    ensures { λ r. ⌜ VerdictRow (now (points .entry)) (now (row .entry)) (now (verdicts .entry)) (now (verdicts .exit)) r ⌝ }
+    ensures { λ r. ⌜ Verdict-row (now (points .entry)) (now (row .entry)) (now (verdicts .entry)) (now (verdicts .exit)) r ⌝ }
 {
     let mut total: usize = 0;
     let mut t: usize = 0;

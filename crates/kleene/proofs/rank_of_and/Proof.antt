@@ -31,21 +31,24 @@ unfolding rank-of
 returns c =
     let k = c .before in
     let x = k .before .before .args in
-    says-true rank (either-not (x .negated) (x .x) (x .y)) _ _ (rule (x .negated) (x .x) (x .y) _ _ (k .before .known .ensures) (k .known2 .ensures)) (c .if1 .taken)
+    says-true rank (either-not (x .negated) (x .x) (x .y)) _ _
+    (rule (x .negated) (x .x) (x .y) _ _ (k .before .known .ensures) (k .known2 .ensures)) (c .if1 .taken)
 
 returns-2 : tie.Need-returns-2
 unfolding rank-of
 returns-2 c =
     let k = c .before .before in
     let x = k .before .before .args in
-    says-false rank (either-not (x .negated) (x .x) (x .y)) _ _ (rule (x .negated) (x .x) (x .y) _ _ (k .before .known .ensures) (k .known2 .ensures)) (c .before .if1 .left) (c .if2 .taken)
+    says-false rank (either-not (x .negated) (x .x) (x .y)) _ _
+    (rule (x .negated) (x .x) (x .y) _ _ (k .before .known .ensures) (k .known2 .ensures)) (c .before .if1 .left) (c .if2 .taken)
 
 returns-3 : tie.Need-returns-3
 unfolding rank-of
 returns-3 c =
     let k = c .before .before in
     let x = k .before .before .args in
-    says-neither rank (either-not (x .negated) (x .x) (x .y)) _ _ (rule (x .negated) (x .x) (x .y) _ _ (k .before .known .ensures) (k .known2 .ensures)) (c .before .if1 .left) (c .if2 .left)
+    says-neither rank (either-not (x .negated) (x .x) (x .y)) _ _
+    (rule (x .negated) (x .x) (x .y) _ _ (k .before .known .ensures) (k .known2 .ensures)) (c .before .if1 .left) (c .if2 .left)
 
 pub rank-of-and-spec : {M : Type 1} → statement M
 rank-of-and-spec = tie.close (tie.spec known-requires known-requires-2 returns returns-2 returns-3)

@@ -61,7 +61,7 @@ add-end c =
     let pre = s .pre in
     let h = c .before .before .loop-test .taken in
     let line = next-row (p .count) (p .sizes .minutes) (l .loop .i) h in
-    let room = rule-fits p (now (s .args .points)) (now (s .args .valuation)) (now (s .args .verdicts)) (l .loop .verdicts) (l .loop .i) (l .loop .total) (l .loop .at) (l .loop .inv .1) (pre .0) h (c .if1 .taken) (omega (arith, l .loop .inv .1 .long, pre .3)) in
+    let room = rule-fits _ _ _ _ _ _ _ _ (l .loop .inv .1) (pre .0) h (c .if1 .taken) (omega (arith, l .loop .inv .1 .long, pre .3)) in
     omega (arith, room)
 
 sub-verdict-row : tie.Need-sub-verdict-row Inv-loop μ-loop
@@ -94,7 +94,7 @@ part-verdict-row-end-2 c =
     let pre = s .pre in
     let h = c .before .before .before .before .loop-test .taken in
     let line = next-row (p .count) (p .sizes .minutes) (l .loop .i) h in
-    let room = rule-fits p (now (s .args .points)) (now (s .args .valuation)) (now (s .args .verdicts)) (l .loop .verdicts) (l .loop .i) (l .loop .total) (l .loop .at) (l .loop .inv .1) (pre .0) h (c .before .before .if1 .taken) (omega (arith, l .loop .inv .1 .long, pre .3)) in
+    let room = rule-fits _ _ _ _ _ _ _ _ (l .loop .inv .1) (pre .0) h (c .before .before .if1 .taken) (omega (arith, l .loop .inv .1 .long, pre .3)) in
     search needs
 
 verdict-row-requires : tie.Need-verdict-row-requires Inv-loop μ-loop
@@ -105,7 +105,7 @@ verdict-row-requires c κs =
     let pre = s .pre in
     let h = c .before .before .before .before .before .loop-test .taken in
     let line = next-row (p .count) (p .sizes .minutes) (l .loop .i) h in
-    let room = rule-fits p (now (s .args .points)) (now (s .args .valuation)) (now (s .args .verdicts)) (l .loop .verdicts) (l .loop .i) (l .loop .total) (l .loop .at) (l .loop .inv .1) (pre .0) h (c .before .before .before .if1 .taken) (omega (arith, l .loop .inv .1 .long, pre .3)) in
+    let room = rule-fits _ _ _ _ _ _ _ _ (l .loop .inv .1) (pre .0) h (c .before .before .before .if1 .taken) (omega (arith, l .loop .inv .1 .long, pre .3)) in
     let m = p .sizes .minutes in
     (simp (length-take, length-drop) (omega (arith, room, line, pre .2)), simp (length-take, length-drop) (omega (arith, pre .1, pre .0 .minutes .high)))
 
@@ -117,7 +117,7 @@ add-total c =
     let pre = s .pre in
     let h = c .before .before .before .before .before .before .before .before .loop-test .taken in
     let line = next-row (p .count) (p .sizes .minutes) (l .loop .i) h in
-    let room = rule-fits p (now (s .args .points)) (now (s .args .valuation)) (now (s .args .verdicts)) (l .loop .verdicts) (l .loop .i) (l .loop .total) (l .loop .at) (l .loop .inv .1) (pre .0) h (c .before .before .before .before .before .before .if1 .taken) (omega (arith, l .loop .inv .1 .long, pre .3)) in
+    let room = rule-fits _ _ _ _ _ _ _ _ (l .loop .inv .1) (pre .0) h (c .before .before .before .before .before .before .if1 .taken) (omega (arith, l .loop .inv .1 .long, pre .3)) in
     let v = c .before .before .verdict-row in
     let m = p .sizes .minutes in
     let part : length (take (l .loop .at + m - l .loop .at) (drop (l .loop .at) (l .loop .verdicts))) ≤ m = simp (length-take, length-drop) (omega arith) in
@@ -151,10 +151,13 @@ loop-again c =
           (λ w.
           let v = w .4 in
           let run = v .last .1 .1 .0 in
-          renamed p points valuation old (take at new ++ (run ++ drop (at + m) new)) (c .if1 .verdicts) (i + 1) (l .loop .total + v .result) (c .if1 .total) (at + m) (c .if1 .at) (w .7 ∙ sym (given-back at m new run)) (w .8) (w .9)
-          (one-rule p points valuation old new i (l .loop .total) at (l .loop .inv .1) (s .pre .0) h (w .0 .taken) room
-          (take (i * m + m - i * m) (drop (i * m) valuation)) (take (at + m - at) (drop at new)) run (v .result) (ap (λ (k : ℕ). take k (drop (i * m) valuation)) f) (ap (λ (k : ℕ). take k (drop at new)) n) (v .ensures)))
-          (λ w. renamed p points valuation old new (c .if1 .verdicts) (i + 1) (l .loop .total) (c .if1 .total) at (c .if1 .at) (w .1) (w .2) (w .3) (no-rule p points valuation old new i (l .loop .total) at (l .loop .inv .1) (w .0 .left)))
+          renamed p points valuation old (take at new ++ (run ++ drop (at + m) new)) (c .if1 .verdicts) (i + 1) _ (c .if1 .total) (at + m) (c .if1 .at)
+          (w .7 ∙ sym (given-back at m new run)) (w .8) (w .9)
+          (one-rule p points valuation old new i (l .loop .total) at (l .loop .inv .1) (s .pre .0) h (w .0 .taken) room _ _ run (v .result)
+          (ap (λ (k : ℕ). take k (drop (i * m) valuation)) f) (ap (λ (k : ℕ). take k (drop at new)) n) (v .ensures)))
+          (λ w.
+          renamed p points valuation old new (c .if1 .verdicts) (i + 1) (l .loop .total) (c .if1 .total) at (c .if1 .at) (w .1) (w .2) (w .3)
+          (no-rule p points valuation old new i (l .loop .total) at (l .loop .inv .1) (w .0 .left)))
           (c .if1 .came),
     )
 
@@ -167,7 +170,7 @@ returns c k q v =
     let s = l .before .before .before .before in
     let x = s .args in
     let last : l .loop .i ≡ x .t1 .count = omega arith in
-    all-lines (x .t1) (now (x .points)) (now (x .valuation)) (now (x .verdicts)) (l .loop .verdicts) (l .loop .i) (l .loop .total) (l .loop .at) (s .pre .0) (s .pre .3) last (l .loop .inv .1) k q v
+    all-lines _ _ _ _ _ _ _ _ (s .pre .0) (s .pre .3) last (l .loop .inv .1) k q v
 
 pub conclude-spec : {M : Type 1} → statement M
 conclude-spec =

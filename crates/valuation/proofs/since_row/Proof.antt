@@ -38,8 +38,11 @@ loop-holds c =
       omega arith,
       c .rank-row2 .ensures .0,
       omega arith,
-      λ w α β P Q R.
-          (lasts-none (begun (point three w) β) (0 - x .lower) (omega arith), lasts-none (broken (point three w) α) 0 (omega arith), untouched (λ s. codeOf (since three w α β (x .lower) (x .upper) s)) 0 _),
+      λ w α β P Q R. (
+        lasts-none (begun (point three w) β) (0 - x .lower) (omega arith),
+        lasts-none (broken (point three w) α) 0 (omega arith),
+        untouched (λ s. codeOf (since three w α β (x .lower) (x .upper) s)) 0 _,
+      ),
     )
 
 since-begin-requires : tie.Need-since-begin-requires Inv-loop μ-loop
@@ -82,12 +85,17 @@ loop-again c =
       c .next-start .ensures,
       λ w α β P Q R.
           let old = l .loop .inv .3 w α β P Q R in
-          let begins = c .before .before .before .before .since-begin .ensures m (begun (point three w) β) (omega (arith, on)) (l .before .before .before .rank-row .ensures .1 (point three w) β P R) (old .0) in
-          let break = old .2 .above t (omega (arith, on)) ∙ l .before .rank-row2 .ensures .1 (point three w) α P Q t (omega (arith, on)) in
-          let ends = lasts-step t (t + 1) _ (broken (point three w) α) refl break (l .loop .breaks) (c .before .before .note .result) (c .before .before .note .ensures) (old .1) in (
+          let e = point three w in
+          let ranks = l .before .before .before .rank-row .ensures .1 e β P R in
+          let begins = c .before .before .before .before .since-begin .ensures m (begun e β) (omega (arith, on)) ranks (old .0) in
+          let break = old .2 .above t (omega (arith, on)) ∙ l .before .rank-row2 .ensures .1 e α P Q t (omega (arith, on)) in
+          let n = c .before .before .note in
+          let ends = lasts-step t (t + 1) _ (broken e α) refl break (l .loop .breaks) (n .result) (n .ensures) (old .1) in (
             begins,
             ends,
-            one-more (λ s. codeOf (since three w α β (x .lower) (x .upper) s)) 0 t _ (l .loop .row) (c .before .since-value .result) (old .2) (omega arith) (omega (arith, on, s .pre .0, l .loop .inv .1)) (c .before .since-value .ensures w α β (x .lower) (x .upper) t (l .loop .inv .2) begins ends),
+            one-more (λ s. codeOf (since three w α β (x .lower) (x .upper) s)) 0 t _ (l .loop .row) (c .before .since-value .result) (old .2)
+                (omega arith) (omega (arith, on, s .pre .0, l .loop .inv .1))
+                (c .before .since-value .ensures w α β (x .lower) (x .upper) t (l .loop .inv .2) begins ends),
           ),
     )
 

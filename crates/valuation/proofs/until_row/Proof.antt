@@ -1,6 +1,6 @@
 -- `valuation::until_row` meets its contract. The invariant of its loop: the cells from t on are the until's, the breaks from t on and the begins
 -- from t + lower on are noted. The measure is t. Assumes nothing.
-use mathlib.Core.Path.{_≡_, refl, subst, _∙_}
+use mathlib.Core.Path.{_≡_, refl, _∙_}
 use mathlib.Core.Bool.{true, false}
 use Prim.Native.Nat.{ℕ, _+_, _-_, _≤_, _<_}
 use native.Mathlib.Omega.{arith}
@@ -46,8 +46,10 @@ loop-holds c =
       omega arith,
       c .rank-row2 .ensures .0,
       λ w α β P Q R. (
-        firsts-unknown (begun (point three w) β) (m + x .lower) (λ i l. ranked-past false points (now (x .right)) (point three w) β P R i (omega arith) (omega (arith, s .pre .2))),
-        firsts-unknown (broken (point three w) α) m (λ i l. ranked-past true points (now (x .left)) (point three w) α P Q i (omega arith) (omega (arith, s .pre .1))),
+        firsts-unknown (begun (point three w) β) (m + x .lower)
+            (λ i l. ranked-past false points (now (x .right)) (point three w) β P R i (omega arith) (omega (arith, s .pre .2))),
+        firsts-unknown (broken (point three w) α) m
+            (λ i l. ranked-past true points (now (x .left)) (point three w) α P Q i (omega arith) (omega (arith, s .pre .1))),
         untouched (λ s. codeOf (until three w α β (x .lower) (x .upper) s)) m _,
       ),
     )
@@ -97,17 +99,20 @@ loop-again c =
       λ w α β P Q R.
           let old = l .loop .inv .2 w α β P Q R in
           let b = c .before .before .before in
-          let ranks = l .before .before .before .rank-row .ensures .1 (point three w) β P R in
+          let e = point three w in
+          let j = t - 1 + x .lower in
+          let ranks = l .before .before .before .rank-row .ensures .1 e β P R in
           let begin =
-          b .before .until-begin .ensures (begun (point three w) β) ranks (λ past. ranked-past false points (now (x .right)) (point three w) β P R (t - 1 + x .lower) past (omega (arith, past, s .pre .2))) in
-          let begins =
-          firsts-step (t - 1 + x .lower) (b .before .until-begin .result) (begun (point three w) β) (omega arith) begin (l .loop .begins) (b .note .result) (b .note .ensures) (subst (λ (n : ℕ). Firsts (begun (point three w) β) n (l .loop .begins)) there (old .0)) in
-          let break = old .2 .below (t - 1) (omega arith) ∙ l .before .rank-row2 .ensures .1 (point three w) α P Q (t - 1) (omega arith) in
-          let ends =
-          firsts-step (t - 1) _ (broken (point three w) α) (omega arith) break (l .loop .breaks) (c .before .note2 .result) (c .before .note2 .ensures) (subst (λ (n : ℕ). Firsts (broken (point three w) α) n (l .loop .breaks)) more (old .1)) in (
+          b .before .until-begin .ensures (begun e β) ranks
+          (λ past. ranked-past false points (now (x .right)) e β P R j past (omega (arith, past, s .pre .2))) in
+          let begins = firsts-step j (t + x .lower) _ (begun e β) there (omega arith) begin (l .loop .begins) (b .note .result) (b .note .ensures) (old .0) in
+          let break = old .2 .below (t - 1) (omega arith) ∙ l .before .rank-row2 .ensures .1 e α P Q (t - 1) (omega arith) in
+          let ends = firsts-step (t - 1) t _ (broken e α) more (omega arith) break (l .loop .breaks) (c .before .note2 .result) (c .before .note2 .ensures) (old .1) in (
             begins,
             ends,
-            one-before (λ s. codeOf (until three w α β (x .lower) (x .upper) s)) t (length points) _ (l .loop .row) (c .until-value .result) (old .2) (t - 1) (omega arith) (omega arith) (omega arith) (c .until-value .ensures w α β (x .lower) (x .upper) (t - 1) refl (omega arith) begins ends),
+            one-before (λ s. codeOf (until three w α β (x .lower) (x .upper) s)) t (length points) _ (l .loop .row) (c .until-value .result) (old .2)
+                (t - 1) (omega arith) (omega arith) (omega arith)
+                (c .until-value .ensures w α β (x .lower) (x .upper) (t - 1) refl (omega arith) begins ends),
           ),
     )
 

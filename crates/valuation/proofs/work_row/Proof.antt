@@ -1,20 +1,34 @@
 -- `valuation::work_row` meets its contract: in each arm the row is the subformula's meaning over the rows that it names. Assumes nothing.
 use mathlib.Core.Path.{_≡_, sym, ap, subst, _∙_}
+use mathlib.Core.List.{List}
 use Prim.Native.Nat.{ℕ, _-_}
 use native.Mathlib.Omega.{arith}
 use denote.Ref.{now}
 use lib.ListN.{length, take}
 use lib.Seq.{length-take-le}
-use Rattle.kleene.specs.Truth.{codeOf, not3, or3}
+use Rattle.kleene.specs.Truth.{Truth, codeOf, not3, or3}
 use Rattle.mtl.specs.declared.Formula.{Formula}
+use Rattle.policy.specs.declared.Sizes.{Sizes}
 use Rattle.mtl.specs.Algebra.{three}
 use Rattle.mtl.specs.Reading.{since, until, meaning}
-use Rattle.knowledge.specs.Knowledge.{fact, world}
+use Rattle.knowledge.specs.Knowledge.{Knowledge, fact, world}
 use Rattle.valuation.specs.Rows.{Row, Workable}
 use Rattle.valuation.proofs.Work.{run-length, run-shows, in-window, points-show}
 use borrow.Author.Needs.{needs}
 use Rattle.valuation.proofs.work_row.Statement.{statement}
 use Rattle.valuation.proofs.work_row.Tie as tie
+
+-- the time points, as far as the window goes
+front : {z : Sizes} {φ : Formula} {p f l : List ℕ} → Workable z φ p f l → length (take (z .minutes - 0) p) ≡ z .minutes
+front {z} {φ} {p} w = length-take-le (z .minutes - 0) p (omega (arith, w .minutes, w .points)) ∙ omega arith
+
+-- the formula of this arm
+its : {z : Sizes} {φ ψ : Formula} {p f l : List ℕ} → φ ≡ ψ → Workable z φ p f l → Workable z ψ p f l
+its {z} {φ} {ψ} {p} {f} {l} e w = subst (λ (χ : Formula). Workable z χ p f l) e w
+
+worked : (z : Sizes) (k : Knowledge) (v : ℕ → ℕ → Truth) (r : List ℕ) {φ ψ : Formula} → φ ≡ ψ
+    → Row (z .minutes) (meaning three (world z k) v ψ) r → Row (z .minutes) (meaning three (world z k) v φ) r
+worked z k v r e h = subst (λ (χ : Formula). Row (z .minutes) (meaning three (world z k) v χ) r) (sym e) h
 
 enum-told : tie.Need-enum-told
 enum-told c = search needs
@@ -28,8 +42,7 @@ enum-known-formula c = search needs
 proposition-row-requires : tie.Need-proposition-row-requires
 proposition-row-requires c κs =
     let s = c .before .before .before .before .before .before .before in
-    let x = s .args in
-    let w = subst (λ (φ : Formula). Workable (x .sizes) φ (now (x .points)) (now (x .facts)) (now (x .earlier))) (c .before .before .formula .given .1) (s .pre .0) in
+    let w = its (c .before .before .formula .given .1) (s .pre .0) in
     (w .minutes, w .facts, w .proposes, s .pre .2)
 
 enum-known-formula-2 : tie.Need-enum-known-formula-2
@@ -38,16 +51,14 @@ enum-known-formula-2 c = search needs
 run-of-requires : tie.Need-run-of-requires
 run-of-requires c κs =
     let s = c .before .before .before .before .before .before in
-    let x = s .args in
-    let w = subst (λ (φ : Formula). Workable (x .sizes) φ (now (x .points)) (now (x .facts)) (now (x .earlier))) (c .before .formula2 .given .1) (s .pre .0) in
+    let w = its (c .before .formula2 .given .1) (s .pre .0) in
     w .operands
 
 not-row-requires : tie.Need-not-row-requires
 not-row-requires c κs =
     let s = c .before .before .before .before .before .before .before .before in
-    let x = s .args in
-    let w = subst (λ (φ : Formula). Workable (x .sizes) φ (now (x .points)) (now (x .facts)) (now (x .earlier))) (c .before .before .before .formula2 .given .1) (s .pre .0) in
-    omega (arith, run-length (x .sizes .minutes) (now (x .earlier)) (now (c .before .run-of .result)) _ (c .before .run-of .ensures) (w .operands), w .minutes)
+    let w = its (c .before .before .before .formula2 .given .1) (s .pre .0) in
+    omega (arith, run-length _ _ _ _ (c .before .run-of .ensures) (w .operands), w .minutes)
 
 enum-known-formula-3 : tie.Need-enum-known-formula-3
 enum-known-formula-3 c = search needs
@@ -55,24 +66,21 @@ enum-known-formula-3 c = search needs
 run-of-requires-2 : tie.Need-run-of-requires-2
 run-of-requires-2 c κs =
     let s = c .before .before .before .before .before .before in
-    let x = s .args in
-    let w = subst (λ (φ : Formula). Workable (x .sizes) φ (now (x .points)) (now (x .facts)) (now (x .earlier))) (c .before .formula3 .given .1) (s .pre .0) in
+    let w = its (c .before .formula3 .given .1) (s .pre .0) in
     w .operands .0
 
 run-of-requires-3 : tie.Need-run-of-requires-3
 run-of-requires-3 c κs =
     let s = c .before .before .before .before .before .before .before in
-    let x = s .args in
-    let w = subst (λ (φ : Formula). Workable (x .sizes) φ (now (x .points)) (now (x .facts)) (now (x .earlier))) (c .before .before .formula3 .given .1) (s .pre .0) in
+    let w = its (c .before .before .formula3 .given .1) (s .pre .0) in
     w .operands .1
 
 or-row-requires : tie.Need-or-row-requires
 or-row-requires c κs =
     let s = c .before .before .before .before .before .before .before .before .before in
-    let x = s .args in
-    let w = subst (λ (φ : Formula). Workable (x .sizes) φ (now (x .points)) (now (x .facts)) (now (x .earlier))) (c .before .before .before .before .formula3 .given .1) (s .pre .0) in
-    let l = run-length (x .sizes .minutes) (now (x .earlier)) (now (c .before .before .run-of2 .result)) _ (c .before .before .run-of2 .ensures) (w .operands .0) in
-    let r = run-length (x .sizes .minutes) (now (x .earlier)) (now (c .before .run-of3 .result)) _ (c .before .run-of3 .ensures) (w .operands .1) in
+    let w = its (c .before .before .before .before .formula3 .given .1) (s .pre .0) in
+    let l = run-length _ _ _ _ (c .before .before .run-of2 .ensures) (w .operands .0) in
+    let r = run-length _ _ _ _ (c .before .run-of3 .ensures) (w .operands .1) in
     omega (arith, w .minutes)
 
 enum-known-formula-4 : tie.Need-enum-known-formula-4
@@ -90,15 +98,13 @@ part-since-row-end c = search needs
 run-of-requires-4 : tie.Need-run-of-requires-4
 run-of-requires-4 c κs =
     let s = c .before .before .before .before .before .before .before in
-    let x = s .args in
-    let w = subst (λ (φ : Formula). Workable (x .sizes) φ (now (x .points)) (now (x .facts)) (now (x .earlier))) (c .before .before .formula4 .given .1) (s .pre .0) in
+    let w = its (c .before .before .formula4 .given .1) (s .pre .0) in
     w .operands .0
 
 run-of-requires-5 : tie.Need-run-of-requires-5
 run-of-requires-5 c κs =
     let s = c .before .before .before .before .before .before .before .before in
-    let x = s .args in
-    let w = subst (λ (φ : Formula). Workable (x .sizes) φ (now (x .points)) (now (x .facts)) (now (x .earlier))) (c .before .before .before .formula4 .given .1) (s .pre .0) in
+    let w = its (c .before .before .before .formula4 .given .1) (s .pre .0) in
     w .operands .1
 
 cast-since-row : tie.Need-cast-since-row
@@ -110,12 +116,10 @@ cast-since-row-2 c = search needs
 since-row-requires : tie.Need-since-row-requires
 since-row-requires c κs =
     let s = c .before .before .before .before .before .before .before .before .before .before .before in
-    let x = s .args in
-    let w = subst (λ (φ : Formula). Workable (x .sizes) φ (now (x .points)) (now (x .facts)) (now (x .earlier))) (c .before .before .before .before .before .before .formula4 .given .1) (s .pre .0) in
-    let l = run-length (x .sizes .minutes) (now (x .earlier)) (now (c .before .before .before .run-of4 .result)) _ (c .before .before .before .run-of4 .ensures) (w .operands .0) in
-    let r = run-length (x .sizes .minutes) (now (x .earlier)) (now (c .before .before .run-of5 .result)) _ (c .before .before .run-of5 .ensures) (w .operands .1) in
-    let p = w .points in
-    let e : length (take (x .sizes .minutes - 0) (now (x .points))) ≡ x .sizes .minutes = length-take-le (x .sizes .minutes - 0) (now (x .points)) (omega (arith, w .minutes)) ∙ omega arith in
+    let w = its (c .before .before .before .before .before .before .formula4 .given .1) (s .pre .0) in
+    let l = run-length _ _ _ _ (c .before .before .before .run-of4 .ensures) (w .operands .0) in
+    let r = run-length _ _ _ _ (c .before .before .run-of5 .ensures) (w .operands .1) in
+    let e = front w in
     omega (arith, w .minutes)
 
 enum-known-formula-5 : tie.Need-enum-known-formula-5
@@ -133,15 +137,13 @@ part-until-row-end c = search needs
 run-of-requires-6 : tie.Need-run-of-requires-6
 run-of-requires-6 c κs =
     let s = c .before .before .before .before .before .before .before in
-    let x = s .args in
-    let w = subst (λ (φ : Formula). Workable (x .sizes) φ (now (x .points)) (now (x .facts)) (now (x .earlier))) (c .before .before .formula5 .given .1) (s .pre .0) in
+    let w = its (c .before .before .formula5 .given .1) (s .pre .0) in
     w .operands .0
 
 run-of-requires-7 : tie.Need-run-of-requires-7
 run-of-requires-7 c κs =
     let s = c .before .before .before .before .before .before .before .before in
-    let x = s .args in
-    let w = subst (λ (φ : Formula). Workable (x .sizes) φ (now (x .points)) (now (x .facts)) (now (x .earlier))) (c .before .before .before .formula5 .given .1) (s .pre .0) in
+    let w = its (c .before .before .before .formula5 .given .1) (s .pre .0) in
     w .operands .1
 
 cast-until-row : tie.Need-cast-until-row
@@ -153,12 +155,10 @@ cast-until-row-2 c = search needs
 until-row-requires : tie.Need-until-row-requires
 until-row-requires c κs =
     let s = c .before .before .before .before .before .before .before .before .before .before .before in
-    let x = s .args in
-    let w = subst (λ (φ : Formula). Workable (x .sizes) φ (now (x .points)) (now (x .facts)) (now (x .earlier))) (c .before .before .before .before .before .before .formula5 .given .1) (s .pre .0) in
-    let l = run-length (x .sizes .minutes) (now (x .earlier)) (now (c .before .before .before .run-of6 .result)) _ (c .before .before .before .run-of6 .ensures) (w .operands .0) in
-    let r = run-length (x .sizes .minutes) (now (x .earlier)) (now (c .before .before .run-of7 .result)) _ (c .before .before .run-of7 .ensures) (w .operands .1) in
-    let p = w .points in
-    let e : length (take (x .sizes .minutes - 0) (now (x .points))) ≡ x .sizes .minutes = length-take-le (x .sizes .minutes - 0) (now (x .points)) (omega (arith, w .minutes)) ∙ omega arith in
+    let w = its (c .before .before .before .before .before .before .formula5 .given .1) (s .pre .0) in
+    let l = run-length _ _ _ _ (c .before .before .before .run-of6 .ensures) (w .operands .0) in
+    let r = run-length _ _ _ _ (c .before .before .run-of7 .ensures) (w .operands .1) in
+    let e = front w in
     omega (arith, w .minutes, w .bounded)
 
 returns : tie.Need-returns
@@ -167,7 +167,7 @@ returns c =
     let x = s .args in (
       s .pre .1,
       c .true-row .ensures .0,
-      λ k v e P R. subst (λ (φ : Formula). Row (x .sizes .minutes) (meaning three (world (x .sizes) k) v φ) (c .true-row .last .1 .0)) (sym (c .before .before .enum-told .given .1))
+      λ k v e P R. worked (x .sizes) k v (c .true-row .last .1 .0) (c .before .before .enum-told .given .1)
           (c .true-row .ensures .1),
     )
 
@@ -175,10 +175,10 @@ returns-2 : tie.Need-returns-2
 returns-2 c =
     let s = c .before .before .before .before .before .before .before .before in
     let x = s .args in
-    let w = subst (λ (φ : Formula). Workable (x .sizes) φ (now (x .points)) (now (x .facts)) (now (x .earlier))) (c .before .before .before .formula .given .1) (s .pre .0) in (
+    let w = its (c .before .before .before .formula .given .1) (s .pre .0) in (
       s .pre .1,
       c .proposition-row .ensures .0,
-      λ k v e P R. subst (λ (φ : Formula). Row (x .sizes .minutes) (meaning three (world (x .sizes) k) v φ) (c .proposition-row .last .1 .1 .1 .0)) (sym (c .before .before .before .formula .given .1))
+      λ k v e P R. worked (x .sizes) k v (c .proposition-row .last .1 .1 .1 .0) (c .before .before .before .formula .given .1)
           (λ t h. c .proposition-row .ensures .1 k e t h ∙ sym (ap codeOf (in-window (x .sizes) k t (fact k (c .before .before .before .formula .given .0 .0) t) h))),
     )
 
@@ -186,69 +186,67 @@ returns-3 : tie.Need-returns-3
 returns-3 c =
     let s = c .before .before .before .before .before .before .before .before .before in
     let x = s .args in
-    let w = subst (λ (φ : Formula). Workable (x .sizes) φ (now (x .points)) (now (x .facts)) (now (x .earlier))) (c .before .before .before .before .formula2 .given .1) (s .pre .0) in
+    let w = its (c .before .before .before .before .formula2 .given .1) (s .pre .0) in
     let i = c .before .before .before .before .formula2 .given .0 .0 in (
       s .pre .1,
       c .not-row .ensures .0,
-      λ k v e P R. subst (λ (φ : Formula). Row (x .sizes .minutes) (meaning three (world (x .sizes) k) v φ) (c .not-row .last .1 .0)) (sym (c .before .before .before .before .formula2 .given .1))
-          (subst (λ (m : ℕ). Row m (λ t. not3 (v i t)) (c .not-row .last .1 .0)) (run-length (x .sizes .minutes) (now (x .earlier)) (now (c .before .before .run-of .result)) i (c .before .before .run-of .ensures) (w .operands))
-          (c .not-row .ensures .1 (v i) (run-shows (x .sizes .minutes) (now (x .earlier)) (now (c .before .before .run-of .result)) i (c .before .before .run-of .ensures) (w .operands) v R))),
+      λ k v e P R. worked (x .sizes) k v (c .not-row .last .1 .0) (c .before .before .before .before .formula2 .given .1)
+          (subst (λ (m : ℕ). Row m (λ t. not3 (v i t)) (c .not-row .last .1 .0)) (run-length _ _ _ i (c .before .before .run-of .ensures) (w .operands))
+          (c .not-row .ensures .1 (v i) (run-shows _ _ _ i (c .before .before .run-of .ensures) (w .operands) v R))),
     )
 
 returns-4 : tie.Need-returns-4
 returns-4 c =
     let s = c .before .before .before .before .before .before .before .before .before .before in
     let x = s .args in
-    let w = subst (λ (φ : Formula). Workable (x .sizes) φ (now (x .points)) (now (x .facts)) (now (x .earlier))) (c .before .before .before .before .before .formula3 .given .1) (s .pre .0) in
+    let w = its (c .before .before .before .before .before .formula3 .given .1) (s .pre .0) in
     let i = c .before .before .before .before .before .formula3 .given .0 .0 in
     let j = c .before .before .before .before .before .formula3 .given .0 .1 .0 in (
       s .pre .1,
       c .or-row .ensures .0,
-      λ k v e P R. subst (λ (φ : Formula). Row (x .sizes .minutes) (meaning three (world (x .sizes) k) v φ) (c .or-row .last .1 .1 .0)) (sym (c .before .before .before .before .before .formula3 .given .1))
-          (subst (λ (m : ℕ). Row m (λ t. or3 (v i t) (v j t)) (c .or-row .last .1 .1 .0)) (run-length (x .sizes .minutes) (now (x .earlier)) (now (c .before .before .before .run-of2 .result)) i (c .before .before .before .run-of2 .ensures) (w .operands .0))
-          (c .or-row .ensures .1 (v i) (v j) (run-shows (x .sizes .minutes) (now (x .earlier)) (now (c .before .before .before .run-of2 .result)) i (c .before .before .before .run-of2 .ensures) (w .operands .0) v R) (run-shows (x .sizes .minutes) (now (x .earlier)) (now (c .before .before .run-of3 .result)) j (c .before .before .run-of3 .ensures) (w .operands .1) v R))),
+      λ k v e P R. worked (x .sizes) k v (c .or-row .last .1 .1 .0) (c .before .before .before .before .before .formula3 .given .1)
+          (subst (λ (m : ℕ). Row m (λ t. or3 (v i t) (v j t)) (c .or-row .last .1 .1 .0)) (run-length _ _ _ i (c .before .before .before .run-of2 .ensures) (w .operands .0))
+          (c .or-row .ensures .1 (v i) (v j) (run-shows _ _ _ i (c .before .before .before .run-of2 .ensures) (w .operands .0) v R) (run-shows _ _ _ j (c .before .before .run-of3 .ensures) (w .operands .1) v R))),
     )
 
 returns-5 : tie.Need-returns-5
 returns-5 c =
     let s = c .before .before .before .before .before .before .before .before .before .before .before .before in
     let x = s .args in
-    let w = subst (λ (φ : Formula). Workable (x .sizes) φ (now (x .points)) (now (x .facts)) (now (x .earlier))) (c .before .before .before .before .before .before .before .formula4 .given .1) (s .pre .0) in
+    let w = its (c .before .before .before .before .before .before .before .formula4 .given .1) (s .pre .0) in
     let i = c .before .before .before .before .before .before .before .formula4 .given .0 .0 in
     let j = c .before .before .before .before .before .before .before .formula4 .given .0 .1 .0 in
     let lower = c .before .before .before .before .before .before .before .formula4 .given .0 .1 .1 .0 in
     let upper = c .before .before .before .before .before .before .before .formula4 .given .0 .1 .1 .1 .0 in
-    let p = w .points in
-    let front : length (take (x .sizes .minutes - 0) (now (x .points))) ≡ x .sizes .minutes = length-take-le (x .sizes .minutes - 0) (now (x .points)) (omega (arith, w .minutes)) ∙ omega arith in (
+    let p = w .points in (
       c .since-row .ensures .0,
       c .since-row .ensures .1,
-      λ k v e P R. subst (λ (φ : Formula). Row (x .sizes .minutes) (meaning three (world (x .sizes) k) v φ) (c .since-row .last .1 .1 .1 .1 .1 .1 .0)) (sym (c .before .before .before .before .before .before .before .formula4 .given .1))
-          (subst (λ (m : ℕ). Row m (since three (world (x .sizes) k) (v i) (v j) lower upper) (c .since-row .last .1 .1 .1 .1 .1 .1 .0)) front
+      λ k v e P R. worked (x .sizes) k v (c .since-row .last .1 .1 .1 .1 .1 .1 .0) (c .before .before .before .before .before .before .before .formula4 .given .1)
+          (subst (λ (m : ℕ). Row m (since three (world (x .sizes) k) (v i) (v j) lower upper) (c .since-row .last .1 .1 .1 .1 .1 .1 .0)) (front w)
           (c .since-row .ensures .2 (world (x .sizes) k) (v i) (v j)
           (points-show (x .sizes) k (x .sizes .minutes - 0) (now (x .points)) (omega arith) (omega (arith, w .minutes)) P)
-          (run-shows (x .sizes .minutes) (now (x .earlier)) (now (c .before .before .before .before .run-of4 .result)) i (c .before .before .before .before .run-of4 .ensures) (w .operands .0) v R)
-          (run-shows (x .sizes .minutes) (now (x .earlier)) (now (c .before .before .before .run-of5 .result)) j (c .before .before .before .run-of5 .ensures) (w .operands .1) v R))),
+          (run-shows _ _ _ i (c .before .before .before .before .run-of4 .ensures) (w .operands .0) v R)
+          (run-shows _ _ _ j (c .before .before .before .run-of5 .ensures) (w .operands .1) v R))),
     )
 
 returns-6 : tie.Need-returns-6
 returns-6 c =
     let s = c .before .before .before .before .before .before .before .before .before .before .before .before in
     let x = s .args in
-    let w = subst (λ (φ : Formula). Workable (x .sizes) φ (now (x .points)) (now (x .facts)) (now (x .earlier))) (c .before .before .before .before .before .before .before .formula5 .given .1) (s .pre .0) in
+    let w = its (c .before .before .before .before .before .before .before .formula5 .given .1) (s .pre .0) in
     let i = c .before .before .before .before .before .before .before .formula5 .given .0 .0 in
     let j = c .before .before .before .before .before .before .before .formula5 .given .0 .1 .0 in
     let lower = c .before .before .before .before .before .before .before .formula5 .given .0 .1 .1 .0 in
     let upper = c .before .before .before .before .before .before .before .formula5 .given .0 .1 .1 .1 .0 in
-    let p = w .points in
-    let front : length (take (x .sizes .minutes - 0) (now (x .points))) ≡ x .sizes .minutes = length-take-le (x .sizes .minutes - 0) (now (x .points)) (omega (arith, w .minutes)) ∙ omega arith in (
+    let p = w .points in (
       c .until-row .ensures .0,
       c .until-row .ensures .1,
-      λ k v e P R. subst (λ (φ : Formula). Row (x .sizes .minutes) (meaning three (world (x .sizes) k) v φ) (c .until-row .last .1 .1 .1 .1 .1 .1 .0)) (sym (c .before .before .before .before .before .before .before .formula5 .given .1))
-          (subst (λ (m : ℕ). Row m (until three (world (x .sizes) k) (v i) (v j) lower upper) (c .until-row .last .1 .1 .1 .1 .1 .1 .0)) front
+      λ k v e P R. worked (x .sizes) k v (c .until-row .last .1 .1 .1 .1 .1 .1 .0) (c .before .before .before .before .before .before .before .formula5 .given .1)
+          (subst (λ (m : ℕ). Row m (until three (world (x .sizes) k) (v i) (v j) lower upper) (c .until-row .last .1 .1 .1 .1 .1 .1 .0)) (front w)
           (c .until-row .ensures .2 (world (x .sizes) k) (v i) (v j)
           (points-show (x .sizes) k (x .sizes .minutes - 0) (now (x .points)) (omega arith) (omega (arith, w .minutes)) P)
-          (run-shows (x .sizes .minutes) (now (x .earlier)) (now (c .before .before .before .before .run-of6 .result)) i (c .before .before .before .before .run-of6 .ensures) (w .operands .0) v R)
-          (run-shows (x .sizes .minutes) (now (x .earlier)) (now (c .before .before .before .run-of7 .result)) j (c .before .before .before .run-of7 .ensures) (w .operands .1) v R))),
+          (run-shows _ _ _ i (c .before .before .before .before .run-of6 .ensures) (w .operands .0) v R)
+          (run-shows _ _ _ j (c .before .before .before .run-of7 .ensures) (w .operands .1) v R))),
     )
 
 pub work-row-spec : {M : Type 1} → statement M
