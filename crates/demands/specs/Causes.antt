@@ -11,14 +11,14 @@ use Rattle.refusal.specs.declared.Refusal.{Refusal}
 use Rattle.refusal.specs.declared.Refusal.the-variants.{TruncatedPolicy, BadHeading, BadSubformula, RuleCount, BufferSize, CorruptKnowledge, TruncatedMessage, BadMessage, Conflict}
 use Rattle.refusal.specs.declared.Answer.{Answer as Checked}
 use Rattle.refusal.specs.declared.Answer.the-variants as C
-use Rattle.refusal.specs.Numbers.{numberOf, placeOf, refusal-of}
+use Rattle.refusal.specs.Numbers.{refusal-number, refusal-place, refusal-of}
 use Rattle.refusal.specs.Checks.{Check, check, first-failed, Passed as All-passed, none, pass, Refuses, here, there, Refused-with}
 use Rattle.refusal.specs.Laws.{refusal-law, passing-law, refused-before, refused-after, passed-both, passed-parts, refused-where, other-number, number-law, not-accepted}
-use Rattle.policy.specs.Format.{policy-checks, answerOf as policy-answer, policyOf}
+use Rattle.policy.specs.Format.{policy-checks, answer-of as policy-answer, policy-of}
 use Rattle.policy.specs.Proper.{Causes as Policy-reader-causes}
 use Rattle.policy.specs.Causes.{policy-refuses}
-use Rattle.message.specs.Format.{lengthOf, goodMessage, message-checks, answerOf as message-answer}
-use Rattle.message.specs.Fixes.{Fits, Well-formed, meaningOf}
+use Rattle.message.specs.Format.{length-of, good-message, message-checks, answer-of as message-answer}
+use Rattle.message.specs.Fixes.{Fits, Well-formed, meaning-of}
 use Rattle.message.specs.Proper.{Causes as Message-reader-causes}
 use Rattle.knowledge.specs.Knowledge.{Sound, sound, admits}
 use Rattle.knowledge.specs.Laws.{Limits, sound-law}
@@ -26,8 +26,8 @@ use Rattle.knowledge.specs.Conflict.{admits-law}
 use Rattle.monitor.specs.declared.Answer.{Answer}
 use Rattle.monitor.specs.declared.Answer.the-variants.{Done, Received, Refused}
 use Rattle.monitor.specs.State.{State, Outcome, unless, Sized, sized, opened, settled, slip-checks, record-checks, opening-checks, take-checks, open-state, receive, Taken}
-use Rattle.monitor.specs.Demands.{sizesOf, Some-trace, reply, Policy-causes, Policy-passed, Opening-causes, Passed, Take-causes}
-use Rattle.monitor.specs.Laws.{long-of, sized-law}
+use Rattle.monitor.specs.Demands.{sizes-of, Some-trace, reply, Policy-causes, Policy-passed, Opening-causes, Passed, Take-causes}
+use Rattle.monitor.specs.Laws.{knowledge-sized, sized-law}
 
 -- ---- ways to read the laws
 
@@ -53,7 +53,7 @@ one-fails b r = (first, here)
     first (here e) = e
 
 -- and the number that it answers
-pub one-number : (b : Bool) (r q : Refusal) → Refuses (check b r ∷ []) q → numberOf q ≡ numberOf r
+pub one-number : (b : Bool) (r q : Refusal) → Refuses (check b r ∷ []) q → refusal-number q ≡ refusal-number r
 one-number b r q (here e) = refl
 
 pub one-passes : (b : Bool) (r : Refusal) → All-passed (check b r ∷ []) ↔ (b ≡ true)
@@ -94,7 +94,7 @@ module _ (s : List ℕ) (k : Policy-reader-causes s) where
   passed-policy = via (back (passing-law (policy-checks s))) (k .accepted)
 
   -- in a list that refuses with 1 to 4 just where the policy's checks do
-  pub policy-part : (cs : List Check) → ((r : Refusal) → numberOf r ≤ 4 → Refuses cs r ↔ Refuses (policy-checks s) r) → Policy-causes s (first-failed cs)
+  pub policy-part : (cs : List Check) → ((r : Refusal) → refusal-number r ≤ 4 → Refuses cs r ↔ Refuses (policy-checks s) r) → Policy-causes s (first-failed cs)
   unfolding policy-answer
   policy-part cs f = record {
     one = λ at. via (number-law cs 1 at) (at-place (via (f (TruncatedPolicy at) (omega arith)) (via (back (refusal-law (policy-checks s) (TruncatedPolicy at))) (k .one at))));
@@ -104,35 +104,35 @@ module _ (s : List ℕ) (k : Policy-reader-causes s) where
   }
 
   -- a refusal with another number comes after them
-  pub after-policy : (ys : List Check) (r : Refusal) → (numberOf r ≤ 4 → ⊥) → Refuses (policy-checks s ++ ys) r ↔ (Policy-passed s × Refuses ys r)
+  pub after-policy : (ys : List Check) (r : Refusal) → (refusal-number r ≤ 4 → ⊥) → Refuses (policy-checks s ++ ys) r ↔ (Policy-passed s × Refuses ys r)
   after-policy ys r n = via (refused-after (policy-checks s) ys r (λ q. n (policy-refuses s r q .1))) (both-ways passed-policy same)
 
   module _ (x : State) where
     abbrev fits : Bool
-    fits = sized (policyOf s) x
+    fits = sized (policy-of s) x
 
-    passed-sizes : All-passed (opening-checks s x) ↔ (Policy-passed s × Sized (policyOf s) x)
+    passed-sizes : All-passed (opening-checks s x) ↔ (Policy-passed s × Sized (policy-of s) x)
     passed-sizes =
         via (passed-parts (policy-checks s) (check fits BufferSize ∷ []), λ q. passed-both (policy-checks s) (check fits BufferSize ∷ []) (q .0) (q .1))
-        (both-ways passed-policy (via (one-passes fits BufferSize) (sized-law (policyOf s) x)))
+        (both-ways passed-policy (via (one-passes fits BufferSize) (sized-law (policy-of s) x)))
 
     -- the checks of the sizes: 1 to 5
-    sizes-number : (r : Refusal) → Refuses (opening-checks s x) r → (1 ≤ numberOf r) × (numberOf r ≤ 5)
+    sizes-number : (r : Refusal) → Refuses (opening-checks s x) r → (1 ≤ refusal-number r) × (refusal-number r ≤ 5)
     sizes-number r q = go (refused-where (policy-checks s) (check fits BufferSize ∷ []) r q)
       where
-        go : Refuses (policy-checks s) r ⊎ (All-passed (policy-checks s) × Refuses (check fits BufferSize ∷ []) r) → (1 ≤ numberOf r) × (numberOf r ≤ 5)
+        go : Refuses (policy-checks s) r ⊎ (All-passed (policy-checks s) × Refuses (check fits BufferSize ∷ []) r) → (1 ≤ refusal-number r) × (refusal-number r ≤ 5)
         go (inl h) = omega (arith, policy-refuses s r h)
         go (inr h) = omega (arith, one-number fits BufferSize r (h .1))
 
-    sizes-policy : (r : Refusal) → numberOf r ≤ 4 → Refuses (opening-checks s x) r ↔ Refuses (policy-checks s) r
+    sizes-policy : (r : Refusal) → refusal-number r ≤ 4 → Refuses (opening-checks s x) r ↔ Refuses (policy-checks s) r
     sizes-policy r l = refused-before (policy-checks s) (check fits BufferSize ∷ []) r (λ q. omega (arith, one-number fits BufferSize r q))
 
-    misfit : Refuses (opening-checks s x) BufferSize ↔ (Policy-passed s × (Sized (policyOf s) x → ⊥))
-    misfit = via (after-policy (check fits BufferSize ∷ []) BufferSize (omega arith)) (both-ways same (via (one-fails fits BufferSize) (decided (sized-law (policyOf s) x))))
+    misfit : Refuses (opening-checks s x) BufferSize ↔ (Policy-passed s × (Sized (policy-of s) x → ⊥))
+    misfit = via (after-policy (check fits BufferSize ∷ []) BufferSize (omega arith)) (both-ways same (via (one-fails fits BufferSize) (decided (sized-law (policy-of s) x))))
 
     -- ---- an opening
 
-    done-law : (a : Checked) → (unless a x (record { answer = Done; state = opened (policyOf s) }) .answer ≡ Done) ↔ (a ≡ C.Accepted)
+    done-law : (a : Checked) → (unless a x (record { answer = Done; state = opened (policy-of s) }) .answer ≡ Done) ↔ (a ≡ C.Accepted)
     done-law C.Accepted = (λ e. refl, λ e. refl)
     done-law (C.Refused r) = (λ e. ap reply e, λ e. absurd (not-accepted r e))
 
@@ -140,22 +140,22 @@ module _ (s : List ℕ) (k : Policy-reader-causes s) where
     unfolding open-state
     opening-causes =
         let cs = opening-checks s x in
-        let e = reply-unless (first-failed cs) x (record { answer = Done; state = opened (policyOf s) }) refl in
+        let e = reply-unless (first-failed cs) x (record { answer = Done; state = opened (policy-of s) }) refl in
         record {
           policy = rw e (policy-part cs sizes-policy);
           five = λ at. rw e (via (number-law cs 5 at) (at-zero-two misfit));
           no-other = λ n at. rw e (λ w. in-range n at (number-law cs n at .0 w));
           done = via (done-law (first-failed cs)) (via (passing-law cs) passed-sizes);
-          unwritten = unwritten (first-failed cs) x (record { answer = Done; state = opened (policyOf s) }) refl;
+          unwritten = unwritten (first-failed cs) x (record { answer = Done; state = opened (policy-of s) }) refl;
         }
       where
-        in-range : (n at : ℕ) → Refuses (opening-checks s x) (refusal-of n at) × (numberOf (refusal-of n at) ≡ n) × (placeOf (refusal-of n at) ≡ at) → (1 ≤ n) × (n ≤ 5)
+        in-range : (n at : ℕ) → Refuses (opening-checks s x) (refusal-of n at) × (refusal-number (refusal-of n at) ≡ n) × (refusal-place (refusal-of n at) ≡ at) → (1 ≤ n) × (n ≤ 5)
         in-range n at q = omega (arith, sizes-number (refusal-of n at) (q .0), q .1)
 
     -- ---- the record's checks
 
     abbrev clean : Bool
-    clean = sound (sizesOf s) (x .known)
+    clean = sound (sizes-of s) (x .known)
 
     abbrev firsts : List Check
     firsts = record-checks s (x .known) (length (x .valuation)) (length (x .verdicts))
@@ -163,108 +163,108 @@ module _ (s : List ℕ) (k : Policy-reader-causes s) where
     pub passed-record : All-passed firsts ↔ Passed s x
     passed-record =
         via (passed-parts (opening-checks s x) (check clean CorruptKnowledge ∷ []), λ q. passed-both (opening-checks s x) (check clean CorruptKnowledge ∷ []) (q .0) (q .1))
-        (via (both-ways passed-sizes (via (one-passes clean CorruptKnowledge) (sound-law (sizesOf s) (x .known))))
+        (via (both-ways passed-sizes (via (one-passes clean CorruptKnowledge) (sound-law (sizes-of s) (x .known))))
         (λ q. record { policy = q .0 .0; sized = q .0 .1; sound = q .1 }, λ q. ((q .policy, q .sized), q .sound)))
 
-    record-number : (r : Refusal) → Refuses firsts r → (1 ≤ numberOf r) × (numberOf r ≤ 6)
+    record-number : (r : Refusal) → Refuses firsts r → (1 ≤ refusal-number r) × (refusal-number r ≤ 6)
     record-number r q = go (refused-where (opening-checks s x) (check clean CorruptKnowledge ∷ []) r q)
       where
-        go : Refuses (opening-checks s x) r ⊎ (All-passed (opening-checks s x) × Refuses (check clean CorruptKnowledge ∷ []) r) → (1 ≤ numberOf r) × (numberOf r ≤ 6)
+        go : Refuses (opening-checks s x) r ⊎ (All-passed (opening-checks s x) × Refuses (check clean CorruptKnowledge ∷ []) r) → (1 ≤ refusal-number r) × (refusal-number r ≤ 6)
         go (inl h) = omega (arith, sizes-number r h)
         go (inr h) = omega (arith, one-number clean CorruptKnowledge r (h .1))
 
-    record-sizes : (r : Refusal) → numberOf r ≤ 5 → Refuses firsts r ↔ Refuses (opening-checks s x) r
+    record-sizes : (r : Refusal) → refusal-number r ≤ 5 → Refuses firsts r ↔ Refuses (opening-checks s x) r
     record-sizes r l = refused-before (opening-checks s x) (check clean CorruptKnowledge ∷ []) r (λ q. omega (arith, one-number clean CorruptKnowledge r q))
 
-    corrupt : Refuses firsts CorruptKnowledge ↔ ((Policy-passed s × Sized (policyOf s) x) × (Sound (sizesOf s) (x .known) → ⊥))
+    corrupt : Refuses firsts CorruptKnowledge ↔ ((Policy-passed s × Sized (policy-of s) x) × (Sound (sizes-of s) (x .known) → ⊥))
     corrupt =
         via (refused-after (opening-checks s x) (check clean CorruptKnowledge ∷ []) CorruptKnowledge (λ q. omega (arith, sizes-number CorruptKnowledge q)))
-        (both-ways passed-sizes (via (one-fails clean CorruptKnowledge) (decided (sound-law (sizesOf s) (x .known)))))
+        (both-ways passed-sizes (via (one-fails clean CorruptKnowledge) (decided (sound-law (sizes-of s) (x .known)))))
 
     -- ---- a take
 
-    module _ (b : List ℕ) (km : Message-reader-causes (sizesOf s) b) (limits : policy-answer s ≡ C.Accepted → Limits (sizesOf s))
-        (ranged : policy-answer s ≡ C.Accepted → Well-formed (sizesOf s) b → Fits (sizesOf s) (meaningOf b)) where
+    module _ (b : List ℕ) (km : Message-reader-causes (sizes-of s) b) (limits : policy-answer s ≡ C.Accepted → Limits (sizes-of s))
+        (ranged : policy-answer s ≡ C.Accepted → Well-formed (sizes-of s) b → Fits (sizes-of s) (meaning-of b)) where
       abbrev free : Bool
-      free = admits (sizesOf s) (x .known) (meaningOf b)
+      free = admits (sizes-of s) (x .known) (meaning-of b)
 
       abbrev slip : List Check
-      slip = slip-checks (policyOf s) x b
+      slip = slip-checks (policy-of s) x b
 
       -- 7 to 9
-      slip-number : (r : Refusal) → Refuses slip r → (7 ≤ numberOf r) × (numberOf r ≤ 9)
+      slip-number : (r : Refusal) → Refuses slip r → (7 ≤ refusal-number r) × (refusal-number r ≤ 9)
       slip-number r (here e) = omega arith
       slip-number r (there p (here e)) = omega arith
       slip-number r (there p (there q (here e))) = omega arith
       slip-number r (there p (there q (there u (here e)))) = omega arith
 
-      message-number : (r : Refusal) → Refuses (message-checks (sizesOf s) b) r → numberOf r ≤ 8
+      message-number : (r : Refusal) → Refuses (message-checks (sizes-of s) b) r → refusal-number r ≤ 8
       message-number r (here e) = omega arith
       message-number r (there p (here e)) = omega arith
       message-number r (there p (there q (here e))) = omega arith
 
-      early : (r : Refusal) → numberOf r ≤ 6 → Refuses (take-checks s x b) r ↔ Refuses firsts r
+      early : (r : Refusal) → refusal-number r ≤ 6 → Refuses (take-checks s x b) r ↔ Refuses firsts r
       early r l = refused-before firsts slip r (λ q. omega (arith, slip-number r q))
 
-      late : (r : Refusal) → (numberOf r ≤ 6 → ⊥) → Refuses (take-checks s x b) r ↔ (Passed s x × Refuses slip r)
+      late : (r : Refusal) → (refusal-number r ≤ 6 → ⊥) → Refuses (take-checks s x b) r ↔ (Passed s x × Refuses slip r)
       late r n = via (refused-after firsts slip r (λ q. n (record-number r q .1))) (both-ways passed-record same)
 
       -- the message's own checks
-      in-message : (r : Refusal) → numberOf r ≤ 8 → Refuses slip r ↔ (message-answer (sizesOf s) b ≡ C.Refused r)
+      in-message : (r : Refusal) → refusal-number r ≤ 8 → Refuses slip r ↔ (message-answer (sizes-of s) b ≡ C.Refused r)
       unfolding message-answer
       in-message r l =
-          via (refused-before (message-checks (sizesOf s) b) (check free Conflict ∷ []) r (λ q. omega (arith, one-number free Conflict r q)))
-          (back (refusal-law (message-checks (sizesOf s) b) r))
+          via (refused-before (message-checks (sizes-of s) b) (check free Conflict ∷ []) r (λ q. omega (arith, one-number free Conflict r q)))
+          (back (refusal-law (message-checks (sizes-of s) b) r))
 
-      well-formed : All-passed (message-checks (sizesOf s) b) ↔ Well-formed (sizesOf s) b
+      well-formed : All-passed (message-checks (sizes-of s) b) ↔ Well-formed (sizes-of s) b
       unfolding message-answer
-      well-formed = back (passing-law (message-checks (sizesOf s) b))
+      well-formed = back (passing-law (message-checks (sizes-of s) b))
 
       -- 9 decides whether some trace agrees
-      agreed : Passed s x → Well-formed (sizesOf s) b → (free ≡ true) ↔ Some-trace (sizesOf s) (x .known) (meaningOf b)
+      agreed : Passed s x → Well-formed (sizes-of s) b → (free ≡ true) ↔ Some-trace (sizes-of s) (x .known) (meaning-of b)
       agreed p w =
           let e = k .accepted .1 (p .policy) in
-          admits-law (sizesOf s) (limits e) (x .known) (meaningOf b) (long-of (policyOf s) x (p .sized)) (ranged e w) (p .sound)
+          admits-law (sizes-of s) (limits e) (x .known) (meaning-of b) (knowledge-sized (policy-of s) x (p .sized)) (ranged e w) (p .sound)
 
-      conflict : (Passed s x × Refuses slip Conflict) ↔ (Passed s x × Well-formed (sizesOf s) b × (Some-trace (sizesOf s) (x .known) (meaningOf b) → ⊥))
+      conflict : (Passed s x × Refuses slip Conflict) ↔ (Passed s x × Well-formed (sizes-of s) b × (Some-trace (sizes-of s) (x .known) (meaning-of b) → ⊥))
       conflict = (there-is, back-to)
         where
-          law : Refuses slip Conflict ↔ (Well-formed (sizesOf s) b × (free ≡ false))
+          law : Refuses slip Conflict ↔ (Well-formed (sizes-of s) b × (free ≡ false))
           law =
-              via (refused-after (message-checks (sizesOf s) b) (check free Conflict ∷ []) Conflict (λ q. omega (arith, message-number Conflict q)))
+              via (refused-after (message-checks (sizes-of s) b) (check free Conflict ∷ []) Conflict (λ q. omega (arith, message-number Conflict q)))
               (both-ways well-formed (one-fails free Conflict))
 
-          there-is : Passed s x × Refuses slip Conflict → Passed s x × Well-formed (sizesOf s) b × (Some-trace (sizesOf s) (x .known) (meaningOf b) → ⊥)
+          there-is : Passed s x × Refuses slip Conflict → Passed s x × Well-formed (sizes-of s) b × (Some-trace (sizes-of s) (x .known) (meaning-of b) → ⊥)
           there-is q = let r = law .0 (q .1) in (q .0, r .0, decided (agreed (q .0) (r .0)) .0 (r .1))
 
-          back-to : Passed s x × Well-formed (sizesOf s) b × (Some-trace (sizesOf s) (x .known) (meaningOf b) → ⊥) → Passed s x × Refuses slip Conflict
+          back-to : Passed s x × Well-formed (sizes-of s) b × (Some-trace (sizes-of s) (x .known) (meaning-of b) → ⊥) → Passed s x × Refuses slip Conflict
           back-to q = (q .0, law .1 (q .1, decided (agreed (q .0) (q .1)) .1 (q .2)))
 
-      taken-law : (a : Checked) → Taken (unless a x (settled (policyOf s) x (meaningOf b)) .answer) ↔ (a ≡ C.Accepted)
+      taken-law : (a : Checked) → Taken (unless a x (settled (policy-of s) x (meaning-of b)) .answer) ↔ (a ≡ C.Accepted)
       taken-law C.Accepted = (λ u. refl, λ e. tt)
       taken-law (C.Refused r) = (λ u. absurd u, λ e. absurd (not-accepted r e))
 
-      passed-all : All-passed (take-checks s x b) ↔ (Passed s x × Well-formed (sizesOf s) b × Some-trace (sizesOf s) (x .known) (meaningOf b))
+      passed-all : All-passed (take-checks s x b) ↔ (Passed s x × Well-formed (sizes-of s) b × Some-trace (sizes-of s) (x .known) (meaning-of b))
       passed-all = (there-is, back-to)
         where
-          law : All-passed (take-checks s x b) ↔ (Passed s x × (Well-formed (sizesOf s) b × (free ≡ true)))
+          law : All-passed (take-checks s x b) ↔ (Passed s x × (Well-formed (sizes-of s) b × (free ≡ true)))
           law =
               via (passed-parts firsts slip, λ q. passed-both firsts slip (q .0) (q .1))
               (both-ways passed-record
-              (via (passed-parts (message-checks (sizesOf s) b) (check free Conflict ∷ []), λ q. passed-both (message-checks (sizesOf s) b) (check free Conflict ∷ []) (q .0) (q .1))
+              (via (passed-parts (message-checks (sizes-of s) b) (check free Conflict ∷ []), λ q. passed-both (message-checks (sizes-of s) b) (check free Conflict ∷ []) (q .0) (q .1))
               (both-ways well-formed (one-passes free Conflict))))
 
-          there-is : All-passed (take-checks s x b) → Passed s x × Well-formed (sizesOf s) b × Some-trace (sizesOf s) (x .known) (meaningOf b)
+          there-is : All-passed (take-checks s x b) → Passed s x × Well-formed (sizes-of s) b × Some-trace (sizes-of s) (x .known) (meaning-of b)
           there-is q = let r = law .0 q in (r .0, r .1 .0, agreed (r .0) (r .1 .0) .0 (r .1 .1))
 
-          back-to : Passed s x × Well-formed (sizesOf s) b × Some-trace (sizesOf s) (x .known) (meaningOf b) → All-passed (take-checks s x b)
+          back-to : Passed s x × Well-formed (sizes-of s) b × Some-trace (sizes-of s) (x .known) (meaning-of b) → All-passed (take-checks s x b)
           back-to q = law .1 (q .0, (q .1, agreed (q .0) (q .1) .1 (q .2)))
 
       pub take-causes : Take-causes s x b (receive s x b)
       unfolding receive
       take-causes =
           let cs = take-checks s x b in
-          let e = reply-unless (first-failed cs) x (settled (policyOf s) x (meaningOf b)) refl in
+          let e = reply-unless (first-failed cs) x (settled (policy-of s) x (meaning-of b)) refl in
           record {
             policy = rw e (policy-part cs (λ r l. via (early r (omega arith)) (via (record-sizes r (omega arith)) (sizes-policy r l))));
             five = λ at. rw e (via (number-law cs 5 at) (at-zero-two (via (early BufferSize (omega arith)) (via (record-sizes BufferSize (omega arith)) misfit))));
@@ -274,12 +274,12 @@ module _ (s : List ℕ) (k : Policy-reader-causes s) where
             nine = λ at. rw e (via (number-law cs 9 at) (at-zero-three (via (late Conflict (omega arith)) conflict)));
             no-other = λ n at. rw e (λ w. in-range n at (number-law cs n at .0 w));
             taken = via (taken-law (first-failed cs)) (via (passing-law cs) passed-all);
-            unwritten = unwritten (first-failed cs) x (settled (policyOf s) x (meaningOf b)) refl;
+            unwritten = unwritten (first-failed cs) x (settled (policy-of s) x (meaning-of b)) refl;
           }
         where
-          either : (r : Refusal) → Refuses firsts r ⊎ (All-passed firsts × Refuses slip r) → (1 ≤ numberOf r) × (numberOf r ≤ 9)
+          either : (r : Refusal) → Refuses firsts r ⊎ (All-passed firsts × Refuses slip r) → (1 ≤ refusal-number r) × (refusal-number r ≤ 9)
           either r (inl h) = omega (arith, record-number r h)
           either r (inr h) = omega (arith, slip-number r (h .1))
 
-          in-range : (n at : ℕ) → Refuses (take-checks s x b) (refusal-of n at) × (numberOf (refusal-of n at) ≡ n) × (placeOf (refusal-of n at) ≡ at) → (1 ≤ n) × (n ≤ 9)
+          in-range : (n at : ℕ) → Refuses (take-checks s x b) (refusal-of n at) × (refusal-number (refusal-of n at) ≡ n) × (refusal-place (refusal-of n at) ≡ at) → (1 ≤ n) × (n ≤ 9)
           in-range n at q = omega (arith, either (refusal-of n at) (refused-where firsts slip (refusal-of n at) (q .0)), q .1)

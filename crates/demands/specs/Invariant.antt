@@ -11,7 +11,7 @@ use lib.Seq.{getD-set-same, getD-set-other, set-out, ext-getD}
 use lib.Dec.{eqb}
 use lib.Bits.{bitOr, or-lt}
 use borrow.Author.Tests.{ne-eqb}
-use Rattle.kleene.specs.Truth.{codeOf}
+use Rattle.kleene.specs.Truth.{code-of}
 use Rattle.bits.specs.Bits.{bit, bit-of-zero}
 use Rattle.mtl.specs.Folds.{both}
 use Rattle.rows.specs.Grid.{table, table-length, table-at, place-of, in-grid, place-in}
@@ -25,7 +25,7 @@ use Rattle.knowledge.specs.Laws.{Free, free-law, sound-law, point-law}
 use Rattle.knowledge.specs.Store.{Fact, fact-law, store-long, number-either, number-hit, facts-after, numbers-after}
 use Rattle.valuation.specs.Sheets.{value, verdict, valuation-of, verdicts-of}
 use Rattle.monitor.specs.State.{State, Sized, opened, over}
-use Rattle.monitor.specs.Laws.{long-of, sheet-lengths, fresh-number, fresh-known, fresh-first, fresh-facts, fresh-noted, fresh-sound, blank-sheet, lengths}
+use Rattle.monitor.specs.Laws.{knowledge-sized, sheet-lengths, fresh-number, fresh-known, fresh-first, fresh-facts, fresh-noted, fresh-sound, blank-sheet, lengths}
 use Rattle.monitor.specs.Demands.{rule-line, Exact}
 
 module _ (c : Policy) where
@@ -128,7 +128,7 @@ module _ (c : Policy) where
     Q′ y = Q y ⊎ (y ≡ m)
 
     long : Long (c .sizes) k
-    long = long-of c x (up .sized)
+    long = knowledge-sized c x (up .sized)
 
     lax : Free (c .sizes) k (m .component) (m .event)
     unfolding admits

@@ -9,12 +9,12 @@ use mathlib.Core.Logic.{_⊎_, inl, inr, _↔_, _≢_}
 use mathlib.Core.List.{List}
 use lib.ListN.{getD, length}
 use lib.Seq.{ext-getD}
-use Rattle.kleene.specs.Truth.{Truth, unknown, false3, true3, codeOf, _⊑_, less, same}
+use Rattle.kleene.specs.Truth.{Truth, unknown, false3, true3, code-of, _⊑_, less, same}
 use Rattle.bits.specs.Bits.{bits-same, bit-high}
-use Rattle.mtl.specs.Knowing.{knows-more, Decides, open3, is-true, is-false}
+use Rattle.mtl.specs.Knowing.{knows-more, Settles, open3, is-true, is-false}
 use Rattle.rows.specs.Grid.{table-at, row-of, place-of, in-grid, row-in, place-in, grid-at}
 use Rattle.policy.specs.declared.Policy.{Policy}
-use Rattle.policy.specs.Proper.{Proper, formulaAt}
+use Rattle.policy.specs.Proper.{Proper, formula-at}
 use Rattle.message.specs.Fixes.{Message, Fixes-number, Fixes-fact}
 use Rattle.knowledge.specs.Trace.{Trace, made, Admits}
 use Rattle.knowledge.specs.Knowledge.{Knowledge, none, noted, valued, number, Sound, Agrees, Known-point, is-point, world}
@@ -28,26 +28,26 @@ use Rattle.demands.specs.Invariant.{Kept-up}
 
 -- ---- the sheets
 
-code-true : (a : Truth) → codeOf a ≡ 1 → a ≡ true3
+code-true : (a : Truth) → code-of a ≡ 1 → a ≡ true3
 code-true true3 e = refl
 code-true unknown e = absurd (omega arith)
 code-true false3 e = absurd (omega arith)
 
-code-false : (a : Truth) → codeOf a ≡ 2 → a ≡ false3
+code-false : (a : Truth) → code-of a ≡ 2 → a ≡ false3
 code-false false3 e = refl
 code-false unknown e = absurd (omega arith)
 code-false true3 e = absurd (omega arith)
 
-code-blank : (a : Truth) → codeOf a ≢ 1 → codeOf a ≢ 2 → codeOf a ≡ 0
+code-blank : (a : Truth) → code-of a ≢ 1 → code-of a ≢ 2 → code-of a ≡ 0
 code-blank unknown h k = refl
 code-blank true3 h k = absurd (h refl)
 code-blank false3 h k = absurd (k refl)
 
-more-code : {a b : Truth} → a ⊑ b → codeOf a ≢ 0 → codeOf b ≡ codeOf a
+more-code : {a b : Truth} → a ⊑ b → code-of a ≢ 0 → code-of b ≡ code-of a
 more-code less h = absurd (h refl)
 more-code same h = refl
 
-decided-code : {a : Truth} {b : Bool} → Decides a b → codeOf a ≢ 0 → cond b 1 2 ≡ codeOf a
+decided-code : {a : Truth} {b : Bool} → Settles a b → code-of a ≢ 0 → cond b 1 2 ≡ code-of a
 decided-code open3 h = absurd (h refl)
 decided-code is-true h = refl
 decided-code is-false h = refl
@@ -58,11 +58,11 @@ unfolding noted
 high-bit k f i t h = bit-high 32 (getD (k .facts) (2 * t) 0) (f (2 * t)) i h
 
 module _ (c : Policy) where
-  valuation-at : (k : Knowledge) (l t : ℕ) → l < c .count → t < c .sizes .minutes → getD (valuation-of c k) (l * c .sizes .minutes + t) 0 ≡ codeOf (value c k l t)
+  valuation-at : (k : Knowledge) (l t : ℕ) → l < c .count → t < c .sizes .minutes → getD (valuation-of c k) (l * c .sizes .minutes + t) 0 ≡ code-of (value c k l t)
   unfolding valuation-of
   valuation-at k l t h b =
       table-at (c .count * c .sizes .minutes) _ (l * c .sizes .minutes + t) 0 (in-grid (c .count) (c .sizes .minutes) l t h b)
-      ∙ ap₂ (λ (x y : ℕ). codeOf (value c k x y)) (row-of (c .sizes .minutes) l t b) (place-of (c .sizes .minutes) l t b)
+      ∙ ap₂ (λ (x y : ℕ). code-of (value c k x y)) (row-of (c .sizes .minutes) l t b) (place-of (c .sizes .minutes) l t b)
 
   verdict-at : (k : Knowledge) (r t : ℕ) → r < c .rules → t < c .sizes .minutes → shown c (over c k) r t ≡ verdict c k r t
   unfolding verdicts-of
@@ -70,22 +70,22 @@ module _ (c : Policy) where
       table-at (c .rules * c .sizes .minutes) _ (r * c .sizes .minutes + t) 0 (in-grid (c .rules) (c .sizes .minutes) r t h b)
       ∙ ap₂ (λ (x y : ℕ). verdict c k x y) (row-of (c .sizes .minutes) r t b) (place-of (c .sizes .minutes) r t b)
 
-  -- a verdict is the codeOf of the reading at a known time-point minute
-  pub verdict-point : (k : Knowledge) (r t v : ℕ) → verdict c k r t ≡ v → v ≢ 0 → (is-point (c .sizes) k t ≡ true) × (codeOf (value c k (rule-line c r) t) ≡ v)
+  -- a verdict is the code-of of the reading at a known time-point minute
+  pub verdict-point : (k : Knowledge) (r t v : ℕ) → verdict c k r t ≡ v → v ≢ 0 → (is-point (c .sizes) k t ≡ true) × (code-of (value c k (rule-line c r) t) ≡ v)
   verdict-point k r t v e n = go (is-point (c .sizes) k t) refl e
     where
-      go : (b : Bool) → is-point (c .sizes) k t ≡ b → cond b (codeOf (value c k (rule-line c r) t)) 0 ≡ v → (is-point (c .sizes) k t ≡ true) × (codeOf (value c k (rule-line c r) t) ≡ v)
+      go : (b : Bool) → is-point (c .sizes) k t ≡ b → cond b (code-of (value c k (rule-line c r) t)) 0 ≡ v → (is-point (c .sizes) k t ≡ true) × (code-of (value c k (rule-line c r) t) ≡ v)
       go true f g = (f, g)
       go false f g = absurd (n (sym g))
 
-  verdict-of-point : (k : Knowledge) (r t : ℕ) → is-point (c .sizes) k t ≡ true → verdict c k r t ≡ codeOf (value c k (rule-line c r) t)
-  verdict-of-point k r t e = ap (λ (b : Bool). cond b (codeOf (value c k (rule-line c r) t)) 0) e
+  verdict-of-point : (k : Knowledge) (r t : ℕ) → is-point (c .sizes) k t ≡ true → verdict c k r t ≡ code-of (value c k (rule-line c r) t)
+  verdict-of-point k r t e = ap (λ (b : Bool). cond b (code-of (value c k (rule-line c r) t)) 0) e
 
   pub sheets-over : (k : Knowledge) → Sheets c (over c k)
   sheets-over k = record {
     valuation = valuation-at k;
-    kept = λ r t h b. (λ e. there-kept r t (sym (verdict-at k r t h b) ∙ e), λ z. verdict-at k r t h b ∙ verdict-of-point k r t (point-law (c .sizes) k t .1 (z .0)) ∙ ap codeOf (z .1));
-    broken = λ r t h b. (λ e. there-broken r t (sym (verdict-at k r t h b) ∙ e), λ z. verdict-at k r t h b ∙ verdict-of-point k r t (point-law (c .sizes) k t .1 (z .0)) ∙ ap codeOf (z .1));
+    kept = λ r t h b. (λ e. there-kept r t (sym (verdict-at k r t h b) ∙ e), λ z. verdict-at k r t h b ∙ verdict-of-point k r t (point-law (c .sizes) k t .1 (z .0)) ∙ ap code-of (z .1));
+    broken = λ r t h b. (λ e. there-broken r t (sym (verdict-at k r t h b) ∙ e), λ z. verdict-at k r t h b ∙ verdict-of-point k r t (point-law (c .sizes) k t .1 (z .0)) ∙ ap code-of (z .1));
     blank = λ r t h b x y. verdict-at k r t h b ∙ blank r t (λ e. x (verdict-at k r t h b ∙ e)) (λ e. y (verdict-at k r t h b ∙ e));
   }
     where
@@ -98,8 +98,8 @@ module _ (c : Policy) where
       blank : (r t : ℕ) → verdict c k r t ≢ 1 → verdict c k r t ≢ 2 → verdict c k r t ≡ 0
       blank r t x y = go (is-point (c .sizes) k t) x y
         where
-          go : (b : Bool) → cond b (codeOf (value c k (rule-line c r) t)) 0 ≢ 1 → cond b (codeOf (value c k (rule-line c r) t)) 0 ≢ 2
-              → cond b (codeOf (value c k (rule-line c r) t)) 0 ≡ 0
+          go : (b : Bool) → cond b (code-of (value c k (rule-line c r) t)) 0 ≢ 1 → cond b (code-of (value c k (rule-line c r) t)) 0 ≢ 2
+              → cond b (code-of (value c k (rule-line c r) t)) 0 ≡ 0
           go true x y = code-blank (value c k (rule-line c r) t) x y
           go false x y = refl
 
@@ -181,7 +181,7 @@ module _ (c : Policy) where
         let z = verdict-point (x .known) r t (shown c x r t) (sym e) n in
         let g = more proper x y Q R up vp f in
         shown-at y R vp r t h b ∙ verdict-of-point (y .known) r t (point-more (c .sizes) (x .known) (y .known) g t b (z .0))
-        ∙ more-code (knows-more (world (c .sizes) (x .known)) (world (c .sizes) (y .known)) (world-more (c .sizes) (x .known) (y .known) (vp .exact .sound) g) (formulaAt c) (rule-line c r) t) (λ q. n (sym (z .1) ∙ q))
+        ∙ more-code (knows-more (world (c .sizes) (x .known)) (world (c .sizes) (y .known)) (world-more (c .sizes) (x .known) (y .known) (vp .exact .sound) g) (formula-at c) (rule-line c r) t) (λ q. n (sym (z .1) ∙ q))
         ∙ z .1
 
     module _ (g : (m : Message) → R m → Q m) where

@@ -8,14 +8,14 @@ use Rattle.bits.specs.Digits.{digit, below, expanded}
 use Rattle.bits.specs.Bits.{bit}
 use Rattle.refusal.specs.declared.Refusal.the-variants.{BadMessage, Conflict}
 use Rattle.mtl.specs.Reading.{since, until, deep, reading}
-use Rattle.policy.specs.Format.{lineLength, fieldsAt, keepsKind, goodLine, meaning, formulaOf, subformulaOf, subformulaAt, heading-checks, offset, line-checks, lines-checks, linesUpTo, subformulasOf, ruleLines, rulesUpTo, closing-checks, policy-checks, answerOf as policy-answer, policyOf}
-use Rattle.message.specs.Format.{componentOf, minuteOf, numberOf, namedOf, packedOf, valuesOf, lengthOf, fieldsOf, goodAlive, goodObservation, allWritten, goodFields, answerOf as message-answer, eventIn}
-use Rattle.message.specs.Fixes.{meaningOf}
+use Rattle.policy.specs.Format.{line-length, fields-at, keeps-kind, good-line, meaning, formula-of, subformula-of, subformula-at, heading-checks, offset, line-checks, lines-checks, lines-up-to, subformulas-of, rule-lines, rules-up-to, closing-checks, policy-checks, answer-of as policy-answer, policy-of}
+use Rattle.message.specs.Format.{component-of, minute-of, number-of, named-of, packed-of, values-of, length-of, fields-of, good-alive, good-observation, all-written, good-fields, answer-of as message-answer, event-in}
+use Rattle.message.specs.Fixes.{meaning-of}
 use Rattle.knowledge.specs.Knowledge.{follow, steady, rises, level, word-sound, words-agree, noted, valued, number, is-point, is-none, sound, fresh, stored, free, admits}
 use Rattle.valuation.specs.Sheets.{valuation-of, verdicts-of, standing}
 use Rattle.monitor.specs.declared.Answer.{Answer}
 use Rattle.monitor.specs.declared.Answer.the-variants.{Done, Received, Refused}
-use Rattle.monitor.specs.State.{State, lent, sizes-fit, opened, open-state, receive, Receive, run, after}
+use Rattle.monitor.specs.State.{State, lent, sizes-fit, opened, open-state, receive, Receive, run-calls, after}
 use Rattle.demands.specs.Proved.{opens}
 
 -- "mark 0 at some time in the last 2 minutes"
@@ -87,25 +87,25 @@ pub record Small-shift (x y : State) : Type 0 where
 -- what is assumed of x and y below is so for any buffers of the cards' sizes: both openings are done
 pub opens-sized : (n f v d : List ℕ) → length n ≡ 5 → length f ≡ 8 → length v ≡ 12 → length d ≡ 4
     → (open-state K (lent n f v d) .answer ≡ Done) × (open-state U (lent n f v d) .answer ≡ Done)
-unfolding open-state lineLength fieldsAt keepsKind goodLine meaning formulaOf subformulaOf subformulaAt heading-checks offset line-checks lines-checks linesUpTo subformulasOf ruleLines rulesUpTo closing-checks policy-checks policy-answer policyOf sizes-fit
+unfolding open-state line-length fields-at keeps-kind good-line meaning formula-of subformula-of subformula-at heading-checks offset line-checks lines-checks lines-up-to subformulas-of rule-lines rules-up-to closing-checks policy-checks policy-answer policy-of sizes-fit
 opens-sized n f v d a b c e = (rw (a, b, c, e) refl, rw (a, b, c, e) refl)
 
 -- each case, from the opened state on
-module _ (s : List ℕ) (x : State) (e : open-state s x .state ≡ opened (policyOf s)) where
-  sheet-from : (bs : List (List ℕ)) → sheet s x bs ≡ run s (opened (policyOf s)) (map Receive bs) .verdicts
-  sheet-from bs = ap (λ (y : State). run s y (map Receive bs) .verdicts) e
+module _ (s : List ℕ) (x : State) (e : open-state s x .state ≡ opened (policy-of s)) where
+  sheet-from : (bs : List (List ℕ)) → sheet s x bs ≡ run-calls s (opened (policy-of s)) (map Receive bs) .verdicts
+  sheet-from bs = ap (λ (y : State). run-calls s y (map Receive bs) .verdicts) e
 
-  state-from : (bs : List (List ℕ)) → after s x (map Receive bs) ≡ run s (opened (policyOf s)) (map Receive bs)
-  state-from bs = ap (λ (y : State). run s y (map Receive bs)) e
+  state-from : (bs : List (List ℕ)) → after s x (map Receive bs) ≡ run-calls s (opened (policy-of s)) (map Receive bs)
+  state-from bs = ap (λ (y : State). run-calls s y (map Receive bs)) e
 
-  reply-from : (bs : List (List ℕ)) (b : List ℕ) → reply s x bs b ≡ receive s (run s (opened (policyOf s)) (map Receive bs)) b .answer
-  reply-from bs b = ap (λ (y : State). receive s (run s y (map Receive bs)) b .answer) e
+  reply-from : (bs : List (List ℕ)) (b : List ℕ) → reply s x bs b ≡ receive s (run-calls s (opened (policy-of s)) (map Receive bs)) b .answer
+  reply-from bs b = ap (λ (y : State). receive s (run-calls s y (map Receive bs)) b .answer) e
 
 pub small-shift : (x y : State) → open-state K x .answer ≡ Done → open-state U y .answer ≡ Done → Small-shift x y
-unfolding digit below expanded bit since until deep reading lineLength fieldsAt keepsKind goodLine meaning formulaOf subformulaOf subformulaAt heading-checks offset line-checks lines-checks linesUpTo subformulasOf ruleLines rulesUpTo closing-checks policy-checks policy-answer policyOf componentOf minuteOf numberOf namedOf packedOf valuesOf lengthOf fieldsOf goodAlive goodObservation allWritten goodFields message-answer eventIn meaningOf noted valued number is-point is-none sound fresh stored free admits valuation-of verdicts-of standing sizes-fit opened receive follow steady rises level word-sound words-agree
+unfolding digit below expanded bit since until deep reading line-length fields-at keeps-kind good-line meaning formula-of subformula-of subformula-at heading-checks offset line-checks lines-checks lines-up-to subformulas-of rule-lines rules-up-to closing-checks policy-checks policy-answer policy-of component-of minute-of number-of named-of packed-of values-of length-of fields-of good-alive good-observation all-written good-fields message-answer event-in meaning-of noted valued number is-point is-none sound fresh stored free admits valuation-of verdicts-of standing sizes-fit opened receive follow steady rises level word-sound words-agree
 small-shift x y d e =
-    let k : open-state K x .state ≡ opened (policyOf K) = opens K x d .state in
-    let u : open-state U y .state ≡ opened (policyOf U) = opens U y e .state in
+    let k : open-state K x .state ≡ opened (policy-of K) = opens K x d .state in
+    let u : open-state U y .state ≡ opened (policy-of U) = opens U y e .state in
     record {
       nothing = sheet-from K x k [];
       a = sheet-from K x k (A ∷ []);

@@ -15,21 +15,21 @@ abbrev pub size : Bool → ℕ → ℕ
 size present n = cond present n 0
 
 -- the lower byte first
-abbrev pub wordOf : ℕ → ℕ → ℕ
-wordOf a b = a + b * 256
+abbrev pub word-of : ℕ → ℕ → ℕ
+word-of a b = a + b * 256
 
-abbrev pub longOf : ℕ → ℕ → ℕ → ℕ → ℕ
-longOf a b c d = wordOf a b + wordOf c d * 65536
+abbrev pub long-of : ℕ → ℕ → ℕ → ℕ → ℕ
+long-of a b c d = word-of a b + word-of c d * 65536
 
 -- the field of 1, 2 or 4 bytes that starts at a place, as the message's format still writes it; `field` of Layout says it for any format
 abbrev pub field8 : List ℕ → Bool → ℕ → ℕ
 field8 s present at = cond present (getD s at 0) 0
 
 abbrev pub field16 : List ℕ → Bool → ℕ → ℕ
-field16 s present at = cond present (wordOf (getD s at 0) (getD s (at + 1) 0)) 0
+field16 s present at = cond present (word-of (getD s at 0) (getD s (at + 1) 0)) 0
 
 abbrev pub field32 : List ℕ → Bool → ℕ → ℕ
-field32 s present at = cond present (longOf (getD s at 0) (getD s (at + 1) 0) (getD s (at + 2) 0) (getD s (at + 3) 0)) 0
+field32 s present at = cond present (long-of (getD s at 0) (getD s (at + 1) 0) (getD s (at + 2) 0) (getD s (at + 3) 0)) 0
 
 -- a written field is not 0
 abbrev pub written : Bool → ℕ → Bool

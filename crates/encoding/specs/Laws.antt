@@ -8,7 +8,7 @@ use mathlib.Core.List.{List}
 use borrow.Author.Tests.{ne-eqb}
 use lib.ListN.{getD, length}
 use Rattle.encoding.specs.Fields.{has, size, written}
-use Rattle.encoding.specs.Layout.{width, start, extent, number-at, field, takes, follows, Laid}
+use Rattle.encoding.specs.Layout.{width, start, extent, value-at, field, takes, follows, Laid}
 
 -- a field whose bit stands is not 0
 pub not-zero : (b : Bool) (n : ℕ) → written b n ≡ true → b ≡ true → n ≢ 0
@@ -53,10 +53,10 @@ module _ (ws s : List ℕ) (at : ℕ) where
   pub laid-field : (v : ℕ → ℕ) → Laid ws s at v → (k : ℕ) → k < length ws → field ws s at k ≡ v k
   laid-field v l k h = go (has map k) refl (v k) refl
     where
-      here : v k ≢ 0 → number-at s (start ws map at k) (width ws k) ≡ v k
-      here n = ap (λ (p : ℕ). number-at s p (width ws k)) (same-start v k (λ j i. l .bits j (omega arith))) ∙ l .bytes k h n
+      here : v k ≢ 0 → value-at s (start ws map at k) (width ws k) ≡ v k
+      here n = ap (λ (p : ℕ). value-at s p (width ws k)) (same-start v k (λ j i. l .bits j (omega arith))) ∙ l .bytes k h n
 
-      go : (b : Bool) → has map k ≡ b → (n : ℕ) → v k ≡ n → cond b (number-at s (start ws map at k) (width ws k)) 0 ≡ v k
+      go : (b : Bool) → has map k ≡ b → (n : ℕ) → v k ≡ n → cond b (value-at s (start ws map at k) (width ws k)) 0 ≡ v k
       go true e n f = here (l .bits k h .0 e)
       go false e zero f = sym f
       go false e (suc n) f = absurd (true≢false (sym (l .bits k h .1 (λ q. let z : suc n ≡ 0 = sym f ∙ q in omega arith)) ∙ e))
@@ -69,12 +69,12 @@ module _ (ws s : List ℕ) (at : ℕ) where
   fields-laid w = record { bits = bits; bytes = bytes }
     where
       bits : (k : ℕ) → k < length ws → (has map k ≡ true) ↔ (field ws s at k ≢ 0)
-      bits k h = (not-zero (has map k) (field ws s at k) (w k h), present (has map k) (number-at s (start ws map at k) (width ws k)))
+      bits k h = (not-zero (has map k) (field ws s at k) (w k h), present (has map k) (value-at s (start ws map at k) (width ws k)))
 
-      bytes : (k : ℕ) → k < length ws → field ws s at k ≢ 0 → number-at s (follows ws (field ws s at) at k) (width ws k) ≡ field ws s at k
+      bytes : (k : ℕ) → k < length ws → field ws s at k ≢ 0 → value-at s (follows ws (field ws s at) at k) (width ws k) ≡ field ws s at k
       bytes k h n =
-          ap (λ (p : ℕ). number-at s p (width ws k)) (sym (same-start (field ws s at) k (λ j i. bits j (omega arith))))
-          ∙ sym (its (has map k) (number-at s (start ws map at k) (width ws k)) (present (has map k) (number-at s (start ws map at k) (width ws k)) n))
+          ap (λ (p : ℕ). value-at s p (width ws k)) (sym (same-start (field ws s at) k (λ j i. bits j (omega arith))))
+          ∙ sym (its (has map k) (value-at s (start ws map at k) (width ws k)) (present (has map k) (value-at s (start ws map at k) (width ws k)) n))
         where
           its : (b : Bool) (n : ℕ) → b ≡ true → cond b n 0 ≡ n
           its b n e = rw e

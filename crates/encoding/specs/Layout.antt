@@ -6,7 +6,7 @@ use mathlib.Core.Bool.{true, cond}
 use mathlib.Core.Logic.{_↔_, _≢_}
 use mathlib.Core.List.{List}
 use lib.ListN.{getD, length}
-use Rattle.encoding.specs.Fields.{has, size, wordOf, longOf}
+use Rattle.encoding.specs.Fields.{has, size, word-of, long-of}
 
 -- how many bytes field k takes where it is written
 abbrev pub width : List ℕ → ℕ → ℕ
@@ -24,15 +24,15 @@ abbrev pub extent : List ℕ → ℕ → ℕ
 extent ws map = start ws map 0 (length ws)
 
 -- "Multi-byte fields are little-endian, unsigned": the number in 1, 2 or 4 bytes at a place
-abbrev pub number-at : List ℕ → ℕ → ℕ → ℕ
-number-at s at zero = 0
-number-at s at (suc zero) = getD s at 0
-number-at s at (suc (suc zero)) = wordOf (getD s at 0) (getD s (at + 1) 0)
-number-at s at (suc (suc (suc w))) = longOf (getD s at 0) (getD s (at + 1) 0) (getD s (at + 2) 0) (getD s (at + 3) 0)
+abbrev pub value-at : List ℕ → ℕ → ℕ → ℕ
+value-at s at zero = 0
+value-at s at (suc zero) = getD s at 0
+value-at s at (suc (suc zero)) = word-of (getD s at 0) (getD s (at + 1) 0)
+value-at s at (suc (suc (suc w))) = long-of (getD s at 0) (getD s (at + 1) 0) (getD s (at + 2) 0) (getD s (at + 3) 0)
 
 -- "An absent field is 0": field k of what stands at a place
 abbrev pub field : List ℕ → List ℕ → ℕ → ℕ → ℕ
-field ws s at k = cond (has (getD s at 0) k) (number-at s (start ws (getD s at 0) at k) (width ws k)) 0
+field ws s at k = cond (has (getD s at 0) k) (value-at s (start ws (getD s at 0) at k) (width ws k)) 0
 
 -- ---- what is written, as a claim on numbers
 
@@ -50,4 +50,4 @@ follows ws v at (suc k) = follows ws v at k + takes (v k) (width ws k)
 -- field is not 0", and each of these stands after those before it
 pub record Laid (ws s : List ℕ) (at : ℕ) (v : ℕ → ℕ) : Type 0 where
   pub bits : (k : ℕ) → k < length ws → (has (getD s at 0) k ≡ true) ↔ (v k ≢ 0)
-  pub bytes : (k : ℕ) → k < length ws → v k ≢ 0 → number-at s (follows ws v at k) (width ws k) ≡ v k
+  pub bytes : (k : ℕ) → k < length ws → v k ≢ 0 → value-at s (follows ws v at k) (width ws k) ≡ v k

@@ -4,8 +4,8 @@ ghost use Prim.Native.Nat.{_+_, _*_, _/_, _%_, _≤_, _<_};
 ghost use lib.ListN.{length};
 ghost use lib.Dec.{eqb};
 ghost use mathlib.Core.Bool.{cond};
-ghost use Rattle.encoding.specs.Fields.{size, written, wordOf, longOf};
-ghost use Rattle.encoding.specs.Layout.{number-at};
+ghost use Rattle.encoding.specs.Fields.{size, written, word-of, long-of};
+ghost use Rattle.encoding.specs.Layout.{value-at};
 
 // Is the bit of this weight set in the map.
 pub fn has(map: u8, weight: u8) -> bool
@@ -24,14 +24,14 @@ pub fn size_of(present: bool, n: usize) -> usize
 
 // Two bytes as a number, the lower first.
 pub fn word(a: u8, b: u8) -> u16
-    ensures { λ r. ⌜ r ≡ wordOf a b ⌝ }
+    ensures { λ r. ⌜ r ≡ word-of a b ⌝ }
 {
     (a as u16) + (b as u16) * 256
 }
 
 // Four bytes as a number, the lowest first.
 pub fn long(a: u8, b: u8, c: u8, d: u8) -> u32
-    ensures { λ r. ⌜ r ≡ longOf a b c d ⌝ }
+    ensures { λ r. ⌜ r ≡ long-of a b c d ⌝ }
 {
     (word(a, b) as u32) + (word(c, d) as u32) * 65536
 }
@@ -39,7 +39,7 @@ pub fn long(a: u8, b: u8, c: u8, d: u8) -> u32
 // The field of one byte at a place, 0 where it is absent.
 pub fn read8(s: &[u8], present: bool, at: usize) -> u8
     requires { ⌜ at + size present 1 ≤ length (now s) ⌝ }
-    ensures { λ r. ⌜ r ≡ cond present (number-at (now (s .entry)) at 1) 0 ⌝ }
+    ensures { λ r. ⌜ r ≡ cond present (value-at (now (s .entry)) at 1) 0 ⌝ }
 {
     if present {
         return s[at];
@@ -50,7 +50,7 @@ pub fn read8(s: &[u8], present: bool, at: usize) -> u8
 // The field of two bytes at a place, 0 where it is absent.
 pub fn read16(s: &[u8], present: bool, at: usize) -> u16
     requires { ⌜ at + size present 2 ≤ length (now s) ⌝ }
-    ensures { λ r. ⌜ r ≡ cond present (number-at (now (s .entry)) at 2) 0 ⌝ }
+    ensures { λ r. ⌜ r ≡ cond present (value-at (now (s .entry)) at 2) 0 ⌝ }
 {
     if present {
         return word(s[at], s[at + 1]);
@@ -61,7 +61,7 @@ pub fn read16(s: &[u8], present: bool, at: usize) -> u16
 // The field of four bytes at a place, 0 where it is absent.
 pub fn read32(s: &[u8], present: bool, at: usize) -> u32
     requires { ⌜ at + size present 4 ≤ length (now s) ⌝ }
-    ensures { λ r. ⌜ r ≡ cond present (number-at (now (s .entry)) at 4) 0 ⌝ }
+    ensures { λ r. ⌜ r ≡ cond present (value-at (now (s .entry)) at 4) 0 ⌝ }
 {
     if present {
         return long(s[at], s[at + 1], s[at + 2], s[at + 3]);

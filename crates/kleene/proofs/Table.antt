@@ -9,7 +9,7 @@ use lib.Dec.{eqb}
 use lib.ListN.{getD}
 use borrow.Author.Tests.{eqb-true}
 use Rattle.logic.specs.Bools.{both}
-use Rattle.kleene.specs.Truth.{codeOf, valueOf, not3, or3}
+use Rattle.kleene.specs.Truth.{code-of, value-of, not3, or3}
 
 -- f passes at every number below n
 abbrev pub every : ℕ → (ℕ → Bool) → Bool
@@ -42,23 +42,23 @@ or-codes = (0 ∷ 1 ∷ 0 ∷ []) ∷ (1 ∷ 1 ∷ 1 ∷ []) ∷ (0 ∷ 1 ∷ 2 
 
 -- its test
 abbrev pub or-right : List (List ℕ) → Bool
-or-right = pair-right (λ i j. codeOf (or3 (valueOf i) (valueOf j)))
+or-right = pair-right (λ i j. code-of (or3 (value-of i) (value-of j)))
 
 pub or-rule : (table : List (List ℕ)) → or-right table ≡ true → (i j : ℕ) → i < 3 → j < 3
-    → getD (getD table i []) j 0 ≡ codeOf (or3 (valueOf i) (valueOf j))
-or-rule = pair-rule (λ i j. codeOf (or3 (valueOf i) (valueOf j)))
+    → getD (getD table i []) j 0 ≡ code-of (or3 (value-of i) (value-of j))
+or-rule = pair-rule (λ i j. code-of (or3 (value-of i) (value-of j)))
 
 -- the test of the table of not
 abbrev pub not-right : List ℕ → Bool
-not-right table = every 3 (λ i. eqb (getD table i 0) (codeOf (not3 (valueOf i))))
+not-right table = every 3 (λ i. eqb (getD table i 0) (code-of (not3 (value-of i))))
 
-pub not-rule : (table : List ℕ) → not-right table ≡ true → (i : ℕ) → i < 3 → getD table i 0 ≡ codeOf (not3 (valueOf i))
+pub not-rule : (table : List ℕ) → not-right table ≡ true → (i : ℕ) → i < 3 → getD table i 0 ≡ code-of (not3 (value-of i))
 not-rule table t i h =
-    eqb-true (getD table i 0) (codeOf (not3 (valueOf i)))
-    (every-at 3 (λ a. eqb (getD table a 0) (codeOf (not3 (valueOf a)))) t i h)
+    eqb-true (getD table i 0) (code-of (not3 (value-of i)))
+    (every-at 3 (λ a. eqb (getD table a 0) (code-of (not3 (value-of a)))) t i h)
 
 -- a code above 2 reads as unknown
-pub above : (x : ℕ) → 3 ≤ x → valueOf 0 ≡ valueOf x
+pub above : (x : ℕ) → 3 ≤ x → value-of 0 ≡ value-of x
 above zero h = absurd (not-suc-le-zero h)
 above (suc zero) h = absurd (not-suc-le-zero (le-of-suc-le-suc h))
 above (suc (suc zero)) h = absurd (not-suc-le-zero (le-of-suc-le-suc (le-of-suc-le-suc h)))

@@ -5,7 +5,7 @@ use Prim.Native.Nat.{ℕ, zero, suc}
 use native.Mathlib.Omega.{arith}
 use lib.Dec.{eqb}
 use borrow.Author.Tests.{ne-eqb}
-use Rattle.kleene.specs.Truth.{Truth, unknown, true3, false3, valueOf, not3, or3}
+use Rattle.kleene.specs.Truth.{Truth, unknown, true3, false3, value-of, not3, or3}
 
 -- the code of a value that is known
 abbrev pub known-code : Bool → ℕ
@@ -24,7 +24,7 @@ above true n = ne-eqb (suc (suc (suc n))) 1 (λ e. omega arith)
 above false n = ne-eqb (suc (suc (suc n))) 2 (λ e. omega arith)
 
 -- a code's value is known by whether it is the code of true and whether it is the code of false
-pub code-says : (b : Bool) (x : ℕ) → literal b (valueOf x) ≡ says (eqb x (known-code (not b))) (eqb x (known-code b))
+pub code-says : (b : Bool) (x : ℕ) → literal b (value-of x) ≡ says (eqb x (known-code (not b))) (eqb x (known-code b))
 unfolding says
 code-says true zero = refl
 code-says true (suc zero) = refl
@@ -53,8 +53,8 @@ not-not unknown = refl
 not-not true3 = refl
 not-not false3 = refl
 
-pub not-says : (b : Bool) (x : ℕ) → not3 (literal b (valueOf x)) ≡ says (eqb x (known-code b)) (eqb x (known-code (not b)))
-not-says true x = not-not (valueOf x) ∙ code-says false x
+pub not-says : (b : Bool) (x : ℕ) → not3 (literal b (value-of x)) ≡ says (eqb x (known-code b)) (eqb x (known-code (not b)))
+not-says true x = not-not (value-of x) ∙ code-says false x
 not-says false x = code-says true x
 
 -- what each way through the two tests answers, whatever is asked of the value

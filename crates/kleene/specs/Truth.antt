@@ -32,26 +32,26 @@ abbrev pub implies3 : Truth → Truth → Truth
 implies3 x y = or3 (not3 x) y
 
 -- 0 unknown, 1 true, 2 false
-abbrev pub codeOf : Truth → ℕ
-codeOf unknown = 0
-codeOf true3 = 1
-codeOf false3 = 2
+abbrev pub code-of : Truth → ℕ
+code-of unknown = 0
+code-of true3 = 1
+code-of false3 = 2
 
 -- a code above 2 reads as unknown
-abbrev pub valueOf : ℕ → Truth
-valueOf zero = unknown
-valueOf (suc zero) = true3
-valueOf (suc (suc zero)) = false3
-valueOf (suc (suc (suc n))) = unknown
+abbrev pub value-of : ℕ → Truth
+value-of zero = unknown
+value-of (suc zero) = true3
+value-of (suc (suc zero)) = false3
+value-of (suc (suc (suc n))) = unknown
 
-pub value-of-code : (x : Truth) → valueOf (codeOf x) ≡ x
+pub value-of-code : (x : Truth) → value-of (code-of x) ≡ x
 value-of-code unknown = refl
 value-of-code true3 = refl
 value-of-code false3 = refl
 
 -- what a code stands for, read back
-pub read-back : (r : ℕ) (x : Truth) → r ≡ codeOf x → valueOf r ≡ x
-read-back r x e = ap valueOf e ∙ value-of-code x
+pub read-back : (r : ℕ) (x : Truth) → r ≡ code-of x → value-of r ≡ x
+read-back r x e = ap value-of e ∙ value-of-code x
 
 -- The order of knowledge (001, section 2): unknown is below every value, and every value is below itself
 infix 40 _⊑_

@@ -3,7 +3,7 @@ ghost use mathlib.Core.Path.{_≡_};
 ghost use Prim.Native.Nat.{ℕ, _<_};
 ghost use mathlib.Core.List.{[]};
 ghost use lib.ListN.{getD};
-ghost use Rattle.kleene.specs.Truth.{codeOf, valueOf, not3, or3, and3};
+ghost use Rattle.kleene.specs.Truth.{code-of, value-of, not3, or3, and3};
 ghost use Rattle.kleene.specs.Rank.{rank-of};
 ghost use Rattle.kleene.specs.Tests.{known-code, literal};
 
@@ -33,28 +33,28 @@ const NOT: [u8; 3] = [UNKNOWN, FALSE, TRUE];
 
 // A code as an index of the tables.
 pub fn index(x: u8) -> usize
-    ensures { λ r. ⌜ (r < 3) × (valueOf r ≡ valueOf x) ⌝ }
+    ensures { λ r. ⌜ (r < 3) × (value-of r ≡ value-of x) ⌝ }
 {
     if x < 3 { x as usize } else { 0 }
 }
 
 // The code of `not x`.
 pub fn not(x: u8) -> u8
-    ensures { λ r. ⌜ r ≡ codeOf (not3 (valueOf x)) ⌝ }
+    ensures { λ r. ⌜ r ≡ code-of (not3 (value-of x)) ⌝ }
 {
     NOT[index(x)]
 }
 
 // The table of or itself, for a loop that asks it often.
 pub fn or_table() -> [[u8; 3]; 3]
-    ensures { λ r. ⌜ ((i j : ℕ) → i < 3 → j < 3 → getD (getD r i []) j 0 ≡ codeOf (or3 (valueOf i) (valueOf j))) ⌝ }
+    ensures { λ r. ⌜ ((i j : ℕ) → i < 3 → j < 3 → getD (getD r i []) j 0 ≡ code-of (or3 (value-of i) (value-of j))) ⌝ }
 {
     OR
 }
 
 // The code of `x or y`.
 pub fn or(x: u8, y: u8) -> u8
-    ensures { λ r. ⌜ r ≡ codeOf (or3 (valueOf x) (valueOf y)) ⌝ }
+    ensures { λ r. ⌜ r ≡ code-of (or3 (value-of x) (value-of y)) ⌝ }
 {
     OR[index(x)][index(y)]
 }
@@ -69,7 +69,7 @@ fn known(value: bool) -> u8
 // The rank of `x and y`, or where y is negated of `x and not y`. By tests and no table, for inner loops: there a table is built anew each time
 // round.
 pub fn rank_of_and(x: u8, y: u8, negated: bool) -> u8
-    ensures { λ r. ⌜ r ≡ rank-of (and3 (valueOf x) (literal negated (valueOf y))) ⌝ }
+    ensures { λ r. ⌜ r ≡ rank-of (and3 (value-of x) (literal negated (value-of y))) ⌝ }
 {
     let no = known(negated);
     let yes = known(!negated);

@@ -5,10 +5,10 @@ use Prim.Native.Nat.{ℕ, zero, suc}
 use native.Mathlib.Omega.{arith}
 use lib.Dec.{eqb}
 use borrow.Author.Tests.{ne-eqb}
-use Rattle.kleene.specs.Truth.{codeOf, valueOf, or3}
+use Rattle.kleene.specs.Truth.{code-of, value-of, or3}
 use Rattle.knowledge.specs.Knowledge.{says}
 
-value-says : (x : ℕ) → valueOf x ≡ says (eqb x 1) (eqb x 2)
+value-says : (x : ℕ) → value-of x ≡ says (eqb x 1) (eqb x 2)
 value-says zero = refl
 value-says (suc zero) = refl
 value-says (suc (suc zero)) = refl
@@ -26,8 +26,8 @@ or-says false false true g = refl
 or-says false false false true = refl
 or-says false false false false = refl
 
-merge-says : (x y : ℕ) → codeOf (or3 (valueOf x) (valueOf y)) ≡ codeOf (says (eqb x 1 || eqb y 1) (eqb x 2 && eqb y 2))
-merge-says x y = ap codeOf (ap₂ or3 (value-says x) (value-says y) ∙ or-says (eqb x 1) (eqb x 2) (eqb y 1) (eqb y 2))
+merge-says : (x y : ℕ) → code-of (or3 (value-of x) (value-of y)) ≡ code-of (says (eqb x 1 || eqb y 1) (eqb x 2 && eqb y 2))
+merge-says x y = ap code-of (ap₂ or3 (value-says x) (value-says y) ∙ or-says (eqb x 1) (eqb x 2) (eqb y 1) (eqb y 2))
 
 -- what both say, as the folds say it
 pub meet-and : (a b : Bool) → not (not a || not b) ≡ (a && b)
@@ -37,11 +37,11 @@ meet-and false b = refl
 
 -- what each way through the two tests answers
 module _ (x y : ℕ) where
-  pub merge-true : (eqb x 1 || eqb y 1) ≡ true → 1 ≡ codeOf (or3 (valueOf x) (valueOf y))
-  merge-true p = sym (merge-says x y ∙ ap (λ (b : Bool). codeOf (says b (eqb x 2 && eqb y 2))) p)
+  pub merge-true : (eqb x 1 || eqb y 1) ≡ true → 1 ≡ code-of (or3 (value-of x) (value-of y))
+  merge-true p = sym (merge-says x y ∙ ap (λ (b : Bool). code-of (says b (eqb x 2 && eqb y 2))) p)
 
-  pub merge-false : (eqb x 1 || eqb y 1) ≡ false → (eqb x 2 && eqb y 2) ≡ true → 2 ≡ codeOf (or3 (valueOf x) (valueOf y))
-  merge-false p q = sym (merge-says x y ∙ ap₂ (λ (a b : Bool). codeOf (says a b)) p q)
+  pub merge-false : (eqb x 1 || eqb y 1) ≡ false → (eqb x 2 && eqb y 2) ≡ true → 2 ≡ code-of (or3 (value-of x) (value-of y))
+  merge-false p q = sym (merge-says x y ∙ ap₂ (λ (a b : Bool). code-of (says a b)) p q)
 
-  pub merge-neither : (eqb x 1 || eqb y 1) ≡ false → (eqb x 2 && eqb y 2) ≡ false → 0 ≡ codeOf (or3 (valueOf x) (valueOf y))
-  merge-neither p q = sym (merge-says x y ∙ ap₂ (λ (a b : Bool). codeOf (says a b)) p q)
+  pub merge-neither : (eqb x 1 || eqb y 1) ≡ false → (eqb x 2 && eqb y 2) ≡ false → 0 ≡ code-of (or3 (value-of x) (value-of y))
+  merge-neither p q = sym (merge-says x y ∙ ap₂ (λ (a b : Bool). code-of (says a b)) p q)

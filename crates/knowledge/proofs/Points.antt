@@ -8,7 +8,7 @@ use native.Mathlib.Nat.{zero-add}
 use native.Mathlib.Numerals.{add-one}
 use native.Mathlib.Omega.{arith}
 use lib.ListN.{getD}
-use Rattle.kleene.specs.Truth.{Truth, codeOf, valueOf, or3, read-back}
+use Rattle.kleene.specs.Truth.{Truth, code-of, value-of, or3, read-back}
 use Rattle.mtl.specs.Algebra.{any, all}
 use Rattle.mtl.specs.Algebra as algebra
 use Rattle.rows.specs.Over.{Over}
@@ -19,11 +19,11 @@ use Rattle.knowledge.proofs.Merging.{or-says, meet-and}
 use Rattle.knowledge.specs.Run.{joined, told}
 
 pub stretch : (f : ℕ → ℕ) (m mid hi : ℕ) (old row new : List ℕ) (code : ℕ) → Over (joined old (told f m)) 0 mid old row
-    → Over (joined row (λ _. valueOf code)) mid hi row new → mid ≤ hi
-    → ((t : ℕ) → mid ≤ t → t < hi → valueOf code ≡ told f m t) → Over (joined old (told f m)) 0 hi old new
+    → Over (joined row (λ _. value-of code)) mid hi row new → mid ≤ hi
+    → ((t : ℕ) → mid ≤ t → t < hi → value-of code ≡ told f m t) → Over (joined old (told f m)) 0 hi old new
 stretch f m mid hi old row new code o s l e =
-    two (joined old (told f m)) (joined row (λ _. valueOf code)) 0 mid hi old row new o s (omega arith) l
-    (λ t p q. ap₂ (λ (x : ℕ) (y : Truth). codeOf (or3 (valueOf x) y)) (o .above t p) (e t p q))
+    two (joined old (told f m)) (joined row (λ _. value-of code)) 0 mid hi old row new o s (omega arith) l
+    (λ t p q. ap₂ (λ (x : ℕ) (y : Truth). code-of (or3 (value-of x) y)) (o .above t p) (e t p q))
 
 -- what the first n components tell of minute t
 unfoldable pub points : List ℕ → ℕ → ℕ → ℕ → Truth
@@ -46,8 +46,8 @@ all-points z k t = refl
 
 -- the row after one more component
 pub one-more-run : (l : List ℕ) (f : ℕ → ℕ) (m n : ℕ) (row new : List ℕ) → Over (joined row (told f m)) 0 m row new
-    → ((t : ℕ) → t < m → getD row t 0 ≡ codeOf (points l m n t)) → ((t : ℕ) → t < m → told f m t ≡ told (run-of l m n) m t)
-    → (t : ℕ) → t < m → getD new t 0 ≡ codeOf (points l m (n + 1) t)
+    → ((t : ℕ) → t < m → getD row t 0 ≡ code-of (points l m n t)) → ((t : ℕ) → t < m → told f m t ≡ told (run-of l m n) m t)
+    → (t : ℕ) → t < m → getD new t 0 ≡ code-of (points l m (n + 1) t)
 one-more-run l f m n row new o e s t h =
     o .inside t (omega arith) h
-    ∙ ap codeOf (ap₂ or3 (read-back (getD row t 0) (points l m n t) (e t h)) (s t h) ∙ sym (points-more l m n t))
+    ∙ ap code-of (ap₂ or3 (read-back (getD row t 0) (points l m n t) (e t h)) (s t h) ∙ sym (points-more l m n t))

@@ -5,7 +5,7 @@ use mathlib.Core.Bool.{Bool, cond, _&&_}
 use mathlib.Core.List.{List}
 use lib.Dec.{eqb}
 use lib.ListN.{getD, length}
-use Rattle.kleene.specs.Truth.{Truth, unknown, true3, false3, codeOf, valueOf, or3}
+use Rattle.kleene.specs.Truth.{Truth, unknown, true3, false3, code-of, value-of, or3}
 use Rattle.policy.specs.declared.Sizes.{Sizes}
 use Rattle.message.specs.declared.Event.{Event}
 use Rattle.message.specs.Fixes.{Message}
@@ -33,7 +33,7 @@ gap v w d = cond (eqb v w) false3 (cond (eqb d 1) true3 unknown)
 
 -- a row of truth codes, with what x tells joined to each cell by Kleene's or
 abbrev pub joined : List ℕ → (ℕ → Truth) → ℕ → ℕ
-joined row x i = codeOf (or3 (valueOf (getD row i 0)) (x i))
+joined row x i = code-of (or3 (value-of (getD row i 0)) (x i))
 
 -- the run with the number v at place p
 unfoldable pub put : (ℕ → ℕ) → ℕ → ℕ → ℕ → ℕ
@@ -72,5 +72,5 @@ Steady-runs z l = (c : ℕ) → c < z .components → Steady (run-of l (z .minut
 -- the row of the numbers: for each minute whether it is a time point, as a truth code, and 0 from the last minute on
 pub record Point-row (z : Sizes) (numbers row : List ℕ) : Type 0 where
   pub long : length row ≡ most-minutes
-  pub inside : (k : Knowledge) → k .numbers ≡ numbers → (t : ℕ) → t < z .minutes → getD row t 0 ≡ codeOf (point-known z k t)
+  pub inside : (k : Knowledge) → k .numbers ≡ numbers → (t : ℕ) → t < z .minutes → getD row t 0 ≡ code-of (point-known z k t)
   pub past : (t : ℕ) → z .minutes ≤ t → getD row t 0 ≡ 0

@@ -15,17 +15,17 @@ use Rattle.knowledge.specs.Knowledge.{Knowledge, fact, point-known, worl
 
 module _ (z : Sizes) (k : Knowledge) where
   -- line l of some lines at minute t
-  abbrev pub value-of : (ℕ → Formula) → ℕ → ℕ → Truth
-  value-of line l t = reading three (world z k) line l t
+  abbrev pub line-value : (ℕ → Formula) → ℕ → ℕ → Truth
+  line-value line l t = reading three (world z k) line l t
 
   pub record Window : Type 0 where
     -- below M: e, the propositions, and each line of lines that name earlier ones only
     pub point-inside : (t : ℕ) → t < z .minutes → point three (world z k) t ≡ point-known z k t
     pub proposition-inside : (v : ℕ → ℕ → Truth) (i t : ℕ) → t < z .minutes → meaning three (world z k) v (Proposition i) t ≡ fact k i t
-    pub line-inside : (line : ℕ → Formula) → Earlier line → (l t : ℕ) → t < z .minutes → value-of line l t ≡ meaning three (world z k) (value-of line) (line l) t
+    pub line-inside : (line : ℕ → Formula) → Earlier line → (l t : ℕ) → t < z .minutes → line-value line l t ≡ meaning three (world z k) (line-value line) (line l) t
     -- from M on
     pub point-past : (t : ℕ) → z .minutes ≤ t → point three (world z k) t ≡ unknown
-    pub line-past : (line : ℕ → Formula) → Earlier line → (l t : ℕ) → z .minutes ≤ t → value-of line l t ≡ unknown
+    pub line-past : (line : ℕ → Formula) → Earlier line → (l t : ℕ) → z .minutes ≤ t → line-value line l t ≡ unknown
 
   inside : (t : ℕ) (x : Truth) → t < z .minutes → seen (world z k) t x ≡ x
   inside t x h = ap (λ (b : Bool). elim b as (λ _. Truth) [ true ↦ x | false ↦ unknown ]) (lt-ltb t (z .minutes) h)

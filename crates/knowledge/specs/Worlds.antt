@@ -5,7 +5,7 @@ use mathlib.Core.Path.{_≡_, refl, sym, ap, _∙_}
 use mathlib.Core.Bool.{Bool, true, false, cond}
 use borrow.Author.Tests.{ltb-true}
 use Rattle.kleene.specs.Truth.{unknown, false3, true3, _⊑_, less, same}
-use Rattle.mtl.specs.Knowing.{Knows, True-to, Decides, open3, is-true, is-false as is-no}
+use Rattle.mtl.specs.Knowing.{Knows, True-to, Settles, open3, is-true, is-false as is-no}
 use Rattle.knowledge.specs.Knowledge.{none, says, Knowledge, noted, valued, fact, number, Sound, Agrees, Known-point, Known-none, is-point, is-none, world}
 use Rattle.knowledge.specs.Trace.{Trace, made, time-point, trace-world}
 use Rattle.mtl.specs.Folds.{some-below, none-below}
@@ -99,12 +99,12 @@ module _ (z : Sizes) where
       dark = refl;
     }
       where
-        points : (t : ℕ) → t < z .minutes → (p : Bool) → is-point z k t ≡ p → (q : Bool) → is-none z k t ≡ q → Decides (says p q) (time-point z w t)
+        points : (t : ℕ) → t < z .minutes → (p : Bool) → is-point z k t ≡ p → (q : Bool) → is-none z k t ≡ q → Settles (says p q) (time-point z w t)
         points t h true e q f = rw (point-so t h (point-law z k t .0 e)) is-true
         points t h false e true f = rw (none-so t h (none-law z k t .0 f)) is-no
         points t h false e false f = open3
 
-        factual : (i t : ℕ) → t < z .minutes → (b : Bool) → noted k i t ≡ b → (v : Bool) → valued k i t ≡ v → Decides (cond b (cond v true3 false3) unknown) (w .value i t)
+        factual : (i t : ℕ) → t < z .minutes → (b : Bool) → noted k i t ≡ b → (v : Bool) → valued k i t ≡ v → Settles (cond b (cond v true3 false3) unknown) (w .value i t)
         factual i t h true e true f = rw (g .facts i t (marked i t h e) h e ∙ f) is-true
         factual i t h true e false f = rw (g .facts i t (marked i t h e) h e ∙ f) is-no
         factual i t h false e v f = open3

@@ -6,7 +6,7 @@ ghost use Prim.Native.Nat.{ℕ, suc, _+_, _-_, _*_, _^_, _≤_, _<_};
 ghost use mathlib.Core.Bool.{_&&_};
 ghost use lib.Bits.{bitOr};
 ghost use lib.ListN.{length, getD, set};
-ghost use Rattle.kleene.specs.Truth.{codeOf, valueOf, or3};
+ghost use Rattle.kleene.specs.Truth.{code-of, value-of, or3};
 ghost use Rattle.rows.specs.Over.{Over};
 ghost use Rattle.mtl.specs.Algebra.{two, all};
 ghost use Rattle.message.specs.Fixes.{Fits};
@@ -114,7 +114,7 @@ fn may_store(run: &[u16], place: usize, v: u16) -> bool
 
 // What each minute between two neighbouring known places is told.
 fn gap_code(v: u16, w: u16, d: usize) -> u8
-    ensures { λ r. ⌜ r ≡ codeOf (gap v w d) ⌝ }
+    ensures { λ r. ⌜ r ≡ code-of (gap v w d) ⌝ }
 {
     if v == w {
         return 2;
@@ -127,7 +127,7 @@ fn gap_code(v: u16, w: u16, d: usize) -> u8
 
 // What two tell of a minute together: busy if either says busy, quiet if both say quiet, and else open.
 fn merge(x: u8, y: u8) -> u8
-    ensures { λ r. ⌜ r ≡ codeOf (or3 (valueOf x) (valueOf y)) ⌝ }
+    ensures { λ r. ⌜ r ≡ code-of (or3 (value-of x) (value-of y)) ⌝ }
 {
     if (x == 1) | (y == 1) {
         return 1;
@@ -141,7 +141,7 @@ fn merge(x: u8, y: u8) -> u8
 // Joins the cells from lo up to hi with a code.
 fn join(row: &mut [u8; MOST_MINUTES], lo: usize, hi: usize, code: u8)
     requires { ⌜ (lo ≤ hi) × (hi ≤ most-minutes) × (length (now row) ≡ most-minutes) ⌝ }
-    ensures { λ _. ⌜ Over (joined (now (row .entry)) (λ _. valueOf code)) lo hi (now (row .entry)) (now (row .exit)) ⌝ }
+    ensures { λ _. ⌜ Over (joined (now (row .entry)) (λ _. value-of code)) lo hi (now (row .entry)) (now (row .exit)) ⌝ }
 {
     let mut i = lo;
     while i < hi {
@@ -153,7 +153,7 @@ fn join(row: &mut [u8; MOST_MINUTES], lo: usize, hi: usize, code: u8)
 // Joins the cells of a gap. Most gaps of a full record are one minute long and need no loop.
 fn join_gap(row: &mut [u8; MOST_MINUTES], lo: usize, hi: usize, code: u8)
     requires { ⌜ (lo ≤ hi) × (hi ≤ most-minutes) × (length (now row) ≡ most-minutes) ⌝ }
-    ensures { λ _. ⌜ Over (joined (now (row .entry)) (λ _. valueOf code)) lo hi (now (row .entry)) (now (row .exit)) ⌝ }
+    ensures { λ _. ⌜ Over (joined (now (row .entry)) (λ _. value-of code)) lo hi (now (row .entry)) (now (row .exit)) ⌝ }
 {
     if hi - lo == 1 {
         row[lo] = merge(row[lo], code);

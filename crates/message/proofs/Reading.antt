@@ -8,13 +8,13 @@ use native.Mathlib.Nat.{add-zero}
 use lib.Dec.{ltb, leb}
 use lib.ListN.{length}
 use borrow.Author.Tests.{le-leb, lt-leb, leb-true, leb-false}
-use Rattle.encoding.specs.Fields.{has, size, longOf, field8, field32}
+use Rattle.encoding.specs.Fields.{has, size, long-of, field8, field32}
 use Rattle.refusal.specs.declared.Answer.the-variants.{Accepted}
 use Rattle.message.specs.declared.Fields.{Fields}
 use Rattle.message.specs.declared.Event.{Event}
 use Rattle.message.specs.declared.Length.{Length}
 use Rattle.message.specs.declared.Length.the-variants.{Whole, EndsEarly}
-use Rattle.message.specs.Format.{mapOf, minuteAt, numberAt, namedAt, valuesAt, valueBytes, packedAt, namedOf, lengthOf, measured, eventIn, acceptedWith}
+use Rattle.message.specs.Format.{map-of, minute-at, number-at, named-at, values-at, value-bytes, packed-at, named-of, length-of, measured, event-in, accepted-with}
 
 size-le : (present : Bool) (n : ℕ) → size present n ≤ n
 size-le true n = omega arith
@@ -27,61 +27,61 @@ sized {r} {n} {found} {bit} e h =
     (f, omega (arith, f, size-le bit n))
 
 -- the four value bytes, found one by one
-pub packed : (s : List ℕ) (n at : ℕ) {r a b c d : ℕ} → r ≡ longOf a b c d
+pub packed : (s : List ℕ) (n at : ℕ) {r a b c d : ℕ} → r ≡ long-of a b c d
     → a ≡ field8 s (ltb 0 n) (at + 0)
     → b ≡ field8 s (ltb 1 n) (at + 1)
     → c ≡ field8 s (ltb 2 n) (at + 2)
     → d ≡ field8 s (ltb 3 n) (at + 3)
-    → r ≡ packedAt s n at
+    → r ≡ packed-at s n at
 packed s n at e p q u v = rw (e, p, q, u, v, add-zero at)
 
 -- where each field lies
 pub record Inside (s : List ℕ) : Type 0 where
   pub map-in : 0 < length s
-  pub component-in : 1 + size (has (mapOf s) 0) 1 ≤ length s
-  pub minute-in : minuteAt (mapOf s) + size (has (mapOf s) 1) 2 ≤ length s
-  pub number-in : numberAt (mapOf s) + size (has (mapOf s) 2) 2 ≤ length s
-  pub named-in : namedAt (mapOf s) + size (has (mapOf s) 3) 4 ≤ length s
-  pub values-in : valuesAt (mapOf s) + valueBytes (namedOf s) ≤ length s
+  pub component-in : 1 + size (has (map-of s) 0) 1 ≤ length s
+  pub minute-in : minute-at (map-of s) + size (has (map-of s) 1) 2 ≤ length s
+  pub number-in : number-at (map-of s) + size (has (map-of s) 2) 2 ≤ length s
+  pub named-in : named-at (map-of s) + size (has (map-of s) 3) 4 ≤ length s
+  pub values-in : values-at (map-of s) + value-bytes (named-of s) ≤ length s
 
-pub inside : (s : List ℕ) → lengthOf s ≤ length s → Inside s
-unfolding lengthOf
+pub inside : (s : List ℕ) → length-of s ≤ length s → Inside s
+unfolding length-of
 inside s h =
     record { map-in = omega arith; component-in = omega arith; minute-in = omega arith; number-in = omega arith; named-in = omega arith; values-in = h }
 
 -- the mark map, found at its place, and the length that it gives
-pub named-found : (s : List ℕ) {r at : ℕ} {b : Bool} → r ≡ field32 s b at → b ≡ has (mapOf s) 3 → at ≡ namedAt (mapOf s)
-    → r ≡ namedOf s
-unfolding namedOf
+pub named-found : (s : List ℕ) {r at : ℕ} {b : Bool} → r ≡ field32 s b at → b ≡ has (map-of s) 3 → at ≡ named-at (map-of s)
+    → r ≡ named-of s
+unfolding named-of
 named-found s e p q = e ∙ ap₂ (λ (b : Bool) (at : ℕ). field32 s b at) p q
 
-pub length-found : (s : List ℕ) {values n named : ℕ} → values ≡ valuesAt (mapOf s) → n ≡ valueBytes named → named ≡ namedOf s
-    → values + n ≡ lengthOf s
-unfolding lengthOf
-length-found s p q e = ap₂ (λ (x y : ℕ). x + y) p (q ∙ ap (λ (x : ℕ). valueBytes x) e)
+pub length-found : (s : List ℕ) {values n named : ℕ} → values ≡ values-at (map-of s) → n ≡ value-bytes named → named ≡ named-of s
+    → values + n ≡ length-of s
+unfolding length-of
+length-found s p q e = ap₂ (λ (x y : ℕ). x + y) p (q ∙ ap (λ (x : ℕ). value-bytes x) e)
 
-pub length-more : (s : List ℕ) → (0 < lengthOf s) × (valuesAt (mapOf s) ≤ lengthOf s)
-unfolding lengthOf
+pub length-more : (s : List ℕ) → (0 < length-of s) × (values-at (map-of s) ≤ length-of s)
+unfolding length-of
 length-more s = (omega arith, omega arith)
 
-pub ends-early : (s : List ℕ) → length s < lengthOf s → EndsEarly ≡ measured s
+pub ends-early : (s : List ℕ) → length s < length-of s → EndsEarly ≡ measured s
 unfolding measured
 ends-early s h = simp (lt-leb _ _ h)
 
-pub is-whole : (s : List ℕ) → lengthOf s ≤ length s → Whole (lengthOf s) ≡ measured s
+pub is-whole : (s : List ℕ) → length-of s ≤ length s → Whole (length-of s) ≡ measured s
 unfolding measured
 is-whole s h = simp (le-leb _ _ h)
 
 -- what the answer tells
 abbrev pub Told : List ℕ → Length → Type 0
-Told s (Whole n) = (n ≡ lengthOf s) × (lengthOf s ≤ length s)
-Told s EndsEarly = length s < lengthOf s
+Told s (Whole n) = (n ≡ length-of s) × (length-of s ≤ length s)
+Told s EndsEarly = length s < length-of s
 
 tells : (s : List ℕ) → Told s (measured s)
 unfolding measured
-tells s = go (leb (lengthOf s) (length s)) refl
+tells s = go (leb (length-of s) (length s)) refl
   where
-    go : (b : Bool) → leb (lengthOf s) (length s) ≡ b → Told s (cond b (Whole (lengthOf s)) EndsEarly)
+    go : (b : Bool) → leb (length-of s) (length s) ≡ b → Told s (cond b (Whole (length-of s)) EndsEarly)
     go true e = (refl, leb-true _ _ e)
     go false e = leb-false _ _ e
 
@@ -89,6 +89,6 @@ pub told : (s : List ℕ) {found shown : Length} → found ≡ measured s → fo
 told s e q = subst (Told s) (sym e ∙ q) (tells s)
 
 -- the answer that the code puts together
-pub accepted : {f g : Fields} {e : Event} → e ≡ eventIn f → f ≡ g
-    → record { answer = Accepted; component = f .component; event = e } ≡ acceptedWith g
+pub accepted : {f g : Fields} {e : Event} → e ≡ event-in f → f ≡ g
+    → record { answer = Accepted; component = f .component; event = e } ≡ accepted-with g
 accepted p q = rw (p, q)

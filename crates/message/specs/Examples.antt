@@ -8,7 +8,7 @@ use Rattle.refusal.specs.declared.Answer.the-variants.{Accepted}
 use Rattle.message.specs.declared.Event.{Event}
 use Rattle.message.specs.declared.Event.the-variants.{Observation, Alive}
 use Rattle.message.specs.declared.Decoded.{Decoded}
-use Rattle.message.specs.Format.{componentOf, minuteOf, numberOf, namedOf, packedOf, fieldsOf, lengthOf, goodAlive, goodObservation, allWritten, goodFields, eventIn, answerOf, refusedWith, decodeOf}
+use Rattle.message.specs.Format.{component-of, minute-of, number-of, named-of, packed-of, fields-of, length-of, good-alive, good-observation, all-written, good-fields, event-in, answer-of, refused-with, decode-of}
 
 abbrev sizes : Sizes
 sizes = record { propositions = 1; components = 1; minutes = 4 }
@@ -18,17 +18,17 @@ says e = record { answer = Accepted; component = 0; event = e }
 
 pub record Small-shift : Type 0 where
   -- A: minute 0, mark 0 false
-  pub a : decodeOf sizes (0x0C ∷ 0x01 ∷ 0x00 ∷ 0x01 ∷ 0x00 ∷ 0x00 ∷ 0x00 ∷ 0x00 ∷ []) ≡ says (Observation 0 1 1 0)
+  pub a : decode-of sizes (0x0C ∷ 0x01 ∷ 0x00 ∷ 0x01 ∷ 0x00 ∷ 0x00 ∷ 0x00 ∷ 0x00 ∷ []) ≡ says (Observation 0 1 1 0)
   -- B: minute 2, mark 0 true
-  pub b : decodeOf sizes (0x0E ∷ 0x02 ∷ 0x00 ∷ 0x02 ∷ 0x00 ∷ 0x01 ∷ 0x00 ∷ 0x00 ∷ 0x00 ∷ 0x01 ∷ []) ≡ says (Observation 2 2 1 1)
+  pub b : decode-of sizes (0x0E ∷ 0x02 ∷ 0x00 ∷ 0x02 ∷ 0x00 ∷ 0x01 ∷ 0x00 ∷ 0x00 ∷ 0x00 ∷ 0x01 ∷ []) ≡ says (Observation 2 2 1 1)
   -- D: minute 3, no mark
-  pub d : decodeOf sizes (0x06 ∷ 0x03 ∷ 0x00 ∷ 0x03 ∷ 0x00 ∷ []) ≡ says (Observation 3 3 0 0)
-  pub alive : decodeOf sizes (0x10 ∷ []) ≡ says (Alive 0 0)
-  pub no-number : decodeOf sizes (0x00 ∷ []) ≡ refusedWith BadMessage
-  pub empty : decodeOf sizes [] ≡ refusedWith (TruncatedMessage 0)
+  pub d : decode-of sizes (0x06 ∷ 0x03 ∷ 0x00 ∷ 0x03 ∷ 0x00 ∷ []) ≡ says (Observation 3 3 0 0)
+  pub alive : decode-of sizes (0x10 ∷ []) ≡ says (Alive 0 0)
+  pub no-number : decode-of sizes (0x00 ∷ []) ≡ refused-with BadMessage
+  pub empty : decode-of sizes [] ≡ refused-with (TruncatedMessage 0)
 
 pub small-shift : Small-shift
-unfolding decodeOf answerOf eventIn goodFields allWritten goodObservation goodAlive lengthOf fieldsOf packedOf namedOf numberOf minuteOf componentOf expanded below digit
+unfolding decode-of answer-of event-in good-fields all-written good-observation good-alive length-of fields-of packed-of named-of number-of minute-of component-of expanded below digit
 small-shift = record { a = refl; b = refl; d = refl; alive = refl; no-number = refl; empty = refl }
 
 -- One message with every field, and one for each rule that a message can break.
@@ -38,22 +38,22 @@ larger = record { propositions = 3; components = 2; minutes = 4 }
 pub record Rules : Type 0 where
   -- station 1, minute 3, count 258, marks 0 and 2, the second of them true
   pub every :
-      decodeOf larger (0x0F ∷ 0x01 ∷ 0x03 ∷ 0x00 ∷ 0x02 ∷ 0x01 ∷ 0x05 ∷ 0x00 ∷ 0x00 ∷ 0x00 ∷ 0x02 ∷ [])
+      decode-of larger (0x0F ∷ 0x01 ∷ 0x03 ∷ 0x00 ∷ 0x02 ∷ 0x01 ∷ 0x05 ∷ 0x00 ∷ 0x00 ∷ 0x00 ∷ 0x02 ∷ [])
       ≡ record { answer = Accepted; component = 1; event = Observation 3 258 5 4 }
   -- "an observation at minute 4 is 8"; an alive slip at minute 4 is taken, and "minute 5 in its place is 8"
-  pub late : decodeOf sizes (0x06 ∷ 0x04 ∷ 0x00 ∷ 0x03 ∷ 0x00 ∷ []) ≡ refusedWith BadMessage
-  pub alive-last : decodeOf sizes (0x16 ∷ 0x04 ∷ 0x00 ∷ 0x02 ∷ 0x00 ∷ []) ≡ says (Alive 4 2)
-  pub alive-late : decodeOf sizes (0x16 ∷ 0x05 ∷ 0x00 ∷ 0x02 ∷ 0x00 ∷ []) ≡ refusedWith BadMessage
-  pub alive-named : decodeOf sizes (0x18 ∷ 0x01 ∷ 0x00 ∷ 0x00 ∷ 0x00 ∷ 0x00 ∷ []) ≡ refusedWith BadMessage
+  pub late : decode-of sizes (0x06 ∷ 0x04 ∷ 0x00 ∷ 0x03 ∷ 0x00 ∷ []) ≡ refused-with BadMessage
+  pub alive-last : decode-of sizes (0x16 ∷ 0x04 ∷ 0x00 ∷ 0x02 ∷ 0x00 ∷ []) ≡ says (Alive 4 2)
+  pub alive-late : decode-of sizes (0x16 ∷ 0x05 ∷ 0x00 ∷ 0x02 ∷ 0x00 ∷ []) ≡ refused-with BadMessage
+  pub alive-named : decode-of sizes (0x18 ∷ 0x01 ∷ 0x00 ∷ 0x00 ∷ 0x00 ∷ 0x00 ∷ []) ≡ refused-with BadMessage
   -- a station of the card's number, a mark of its number, a spare value bit, bit 5, and a minute written as 0
-  pub station : decodeOf larger (0x11 ∷ 0x02 ∷ []) ≡ refusedWith BadMessage
-  pub mark : decodeOf sizes (0x0C ∷ 0x01 ∷ 0x00 ∷ 0x02 ∷ 0x00 ∷ 0x00 ∷ 0x00 ∷ 0x00 ∷ []) ≡ refusedWith BadMessage
-  pub spare-value : decodeOf sizes (0x0C ∷ 0x01 ∷ 0x00 ∷ 0x01 ∷ 0x00 ∷ 0x00 ∷ 0x00 ∷ 0x02 ∷ []) ≡ refusedWith BadMessage
-  pub spare-bit : decodeOf sizes (0x30 ∷ []) ≡ refusedWith BadMessage
-  pub written-zero : decodeOf sizes (0x12 ∷ 0x00 ∷ 0x00 ∷ []) ≡ refusedWith BadMessage
+  pub station : decode-of larger (0x11 ∷ 0x02 ∷ []) ≡ refused-with BadMessage
+  pub mark : decode-of sizes (0x0C ∷ 0x01 ∷ 0x00 ∷ 0x02 ∷ 0x00 ∷ 0x00 ∷ 0x00 ∷ 0x00 ∷ []) ≡ refused-with BadMessage
+  pub spare-value : decode-of sizes (0x0C ∷ 0x01 ∷ 0x00 ∷ 0x01 ∷ 0x00 ∷ 0x00 ∷ 0x00 ∷ 0x02 ∷ []) ≡ refused-with BadMessage
+  pub spare-bit : decode-of sizes (0x30 ∷ []) ≡ refused-with BadMessage
+  pub written-zero : decode-of sizes (0x12 ∷ 0x00 ∷ 0x00 ∷ []) ≡ refused-with BadMessage
 
 pub rules : Rules
-unfolding decodeOf answerOf eventIn goodFields allWritten goodObservation goodAlive lengthOf fieldsOf packedOf namedOf numberOf minuteOf componentOf expanded below digit
+unfolding decode-of answer-of event-in good-fields all-written good-observation good-alive length-of fields-of packed-of named-of number-of minute-of component-of expanded below digit
 rules = record {
   every = refl;
   late = refl;

@@ -9,7 +9,7 @@ use Rattle.policy.specs.declared.Sizes.{Sizes}
 use Rattle.refusal.specs.declared.Answer.the-variants.{Accepted}
 use Rattle.message.specs.declared.Event.{Event}
 use Rattle.message.specs.declared.Event.the-variants.{Observation, Alive}
-use Rattle.message.specs.Format.{answerOf, componentOf, eventOf}
+use Rattle.message.specs.Format.{answer-of, component-of, event-of}
 
 pub record Message : Type 0 where
   -- 01: its station
@@ -18,10 +18,10 @@ pub record Message : Type 0 where
 
 -- "A slip that neither 7 nor 8 turns away is well-formed"
 abbrev pub Well-formed : Sizes → List ℕ → Type 0
-Well-formed z s = answerOf z s ≡ Accepted
+Well-formed z s = answer-of z s ≡ Accepted
 
-unfoldable pub meaningOf : List ℕ → Message
-meaningOf s = record { component = componentOf s; event = eventOf s }
+unfoldable pub meaning-of : List ℕ → Message
+meaning-of s = record { component = component-of s; event = event-of s }
 
 -- The sequence number at place p: place 0 stands for "before minute 0", place t + 1 for minute t.
 -- "An observation at minute t with count s fixes its station's count at t to s and at t − 1 to s − 1"; "an alive slip at minute t with

@@ -5,7 +5,7 @@ use mathlib.Core.List.{List, [], _∷_}
 use lib.Dec.{eqb, ltb, leb}
 use lib.ListN.{getD, length}
 use Rattle.bits.specs.Digits.{below, expanded}
-use Rattle.encoding.specs.Fields.{has, longOf, field8, written}
+use Rattle.encoding.specs.Fields.{has, long-of, field8, written}
 use Rattle.encoding.specs.Layout.{start, extent, field}
 use Rattle.refusal.specs.declared.Refusal.{Refusal}
 use Rattle.refusal.specs.declared.Refusal.the-variants.{TruncatedMessage, BadMessage}
@@ -22,139 +22,139 @@ use Rattle.message.specs.declared.Length.the-variants.{Whole, EndsEarly}
 
 -- ---- the fields
 
-abbrev pub mapOf : List ℕ → ℕ
-mapOf s = getD s 0 0
+abbrev pub map-of : List ℕ → ℕ
+map-of s = getD s 0 0
 
 -- "A bit map, then fields: bit 0 station (1 byte), bit 1 minute (2), bit 2 count (2), bit 3 mark map (4)": how many bytes each takes
 abbrev pub widths : List ℕ
 widths = 1 ∷ 2 ∷ 2 ∷ 4 ∷ []
 
 -- where the minute, the sequence number (count) and the mark map start; the mark map is "followed by its values"
-abbrev pub minuteAt : ℕ → ℕ
-minuteAt map = start widths map 0 1
+abbrev pub minute-at : ℕ → ℕ
+minute-at map = start widths map 0 1
 
-abbrev pub numberAt : ℕ → ℕ
-numberAt map = start widths map 0 2
+abbrev pub number-at : ℕ → ℕ
+number-at map = start widths map 0 2
 
-abbrev pub namedAt : ℕ → ℕ
-namedAt map = start widths map 0 3
+abbrev pub named-at : ℕ → ℕ
+named-at map = start widths map 0 3
 
-abbrev pub valuesAt : ℕ → ℕ
-valuesAt map = extent widths map
+abbrev pub values-at : ℕ → ℕ
+values-at map = extent widths map
 
-unfoldable pub componentOf : List ℕ → ℕ
-componentOf s = field widths s 0 0
+unfoldable pub component-of : List ℕ → ℕ
+component-of s = field widths s 0 0
 
-unfoldable pub minuteOf : List ℕ → ℕ
-minuteOf s = field widths s 0 1
+unfoldable pub minute-of : List ℕ → ℕ
+minute-of s = field widths s 0 1
 
-unfoldable pub numberOf : List ℕ → ℕ
-numberOf s = field widths s 0 2
+unfoldable pub number-of : List ℕ → ℕ
+number-of s = field widths s 0 2
 
 -- "The mark map's bit k names mark k"
-unfoldable pub namedOf : List ℕ → ℕ
-namedOf s = field widths s 0 3
+unfoldable pub named-of : List ℕ → ℕ
+named-of s = field widths s 0 3
 
 -- "If n marks are named, the values are n/8 bytes rounded up"
-abbrev pub valueBytes : ℕ → ℕ
-valueBytes named = (below 32 named + 7) / 8
+abbrev pub value-bytes : ℕ → ℕ
+value-bytes named = (below 32 named + 7) / 8
 
 -- the value bytes as one number, the first byte lowest
-abbrev pub packedAt : List ℕ → ℕ → ℕ → ℕ
-packedAt s n at = longOf (field8 s (ltb 0 n) at) (field8 s (ltb 1 n) (at + 1)) (field8 s (ltb 2 n) (at + 2)) (field8 s (ltb 3 n) (at + 3))
+abbrev pub packed-at : List ℕ → ℕ → ℕ → ℕ
+packed-at s n at = long-of (field8 s (ltb 0 n) at) (field8 s (ltb 1 n) (at + 1)) (field8 s (ltb 2 n) (at + 2)) (field8 s (ltb 3 n) (at + 3))
 
-unfoldable pub packedOf : List ℕ → ℕ
-packedOf s = packedAt s (valueBytes (namedOf s)) (valuesAt (mapOf s))
+unfoldable pub packed-of : List ℕ → ℕ
+packed-of s = packed-at s (value-bytes (named-of s)) (values-at (map-of s))
 
 -- "Value bit j (from the lowest bit of the first byte) belongs to the j-th named mark, lowest first": the values at the marks' own bits
-unfoldable pub valuesOf : List ℕ → ℕ
-valuesOf s = expanded 32 (namedOf s) (packedOf s)
+unfoldable pub values-of : List ℕ → ℕ
+values-of s = expanded 32 (named-of s) (packed-of s)
 
 -- what the rules are about
-unfoldable pub fieldsOf : List ℕ → Fields
-fieldsOf s =
-    record { map = mapOf s; component = componentOf s; minute = minuteOf s; number = numberOf s; named = namedOf s; packed = packedOf s }
+unfoldable pub fields-of : List ℕ → Fields
+fields-of s =
+    record { map = map-of s; component = component-of s; minute = minute-of s; number = number-of s; named = named-of s; packed = packed-of s }
 
 -- ---- the length
 
 -- Bits 4 to 7 never change it. Bytes past the end read as 0, so where the map or the mark map is cut this is more than there are
-unfoldable pub lengthOf : List ℕ → ℕ
-lengthOf s = valuesAt (mapOf s) + valueBytes (namedOf s)
+unfoldable pub length-of : List ℕ → ℕ
+length-of s = values-at (map-of s) + value-bytes (named-of s)
 
 unfoldable pub measured : List ℕ → Length
-measured s = cond (leb (lengthOf s) (length s)) (Whole (lengthOf s)) EndsEarly
+measured s = cond (leb (length-of s) (length s)) (Whole (length-of s)) EndsEarly
 
 -- ---- the rules
 
 -- "An alive slip at minute t (at most M) .. names no marks"
-unfoldable pub goodAlive : Sizes → Fields → Bool
-goodAlive z f = eqb (f .named) 0 && leb (f .minute) (z .minutes)
+unfoldable pub good-alive : Sizes → Fields → Bool
+good-alive z f = eqb (f .named) 0 && leb (f .minute) (z .minutes)
 
 -- "An observation at minute t (below M) with count s, at least 1"; it names marks of the card, and "spare bits are 0"
-unfoldable pub goodObservation : Sizes → Fields → Bool
-goodObservation z f =
+unfoldable pub good-observation : Sizes → Fields → Bool
+good-observation z f =
     ltb (f .minute) (z .minutes)
     && (leb 1 (f .number)
     && (ltb (f .named) (2 ^ z .propositions)
     && ltb (f .packed) (2 ^ below 32 (f .named))))
 
 -- "Bit 4 makes it an alive slip"
-abbrev pub goodEvent : Sizes → Fields → Bool
-goodEvent z f = cond (has (f .map) 4) (goodAlive z f) (goodObservation z f)
+abbrev pub good-event : Sizes → Fields → Bool
+good-event z f = cond (has (f .map) 4) (good-alive z f) (good-observation z f)
 
 -- "A written field is not 0; the value bytes are exempt"
-unfoldable pub allWritten : Fields → Bool
-allWritten f =
+unfoldable pub all-written : Fields → Bool
+all-written f =
     written (has (f .map) 0) (f .component)
     && (written (has (f .map) 1) (f .minute)
     && (written (has (f .map) 2) (f .number)
     && written (has (f .map) 3) (f .named)))
 
 -- "Bits 5 to 7 are 0." A station of the card
-unfoldable pub goodFields : Sizes → Fields → Bool
-goodFields z f =
+unfoldable pub good-fields : Sizes → Fields → Bool
+good-fields z f =
     ltb (f .map) 32
-    && (allWritten f
+    && (all-written f
     && (ltb (f .component) (z .components)
-    && goodEvent z f))
+    && good-event z f))
 
-abbrev pub goodMessage : Sizes → List ℕ → Bool
-goodMessage z s = goodFields z (fieldsOf s)
+abbrev pub good-message : Sizes → List ℕ → Bool
+good-message z s = good-fields z (fields-of s)
 
 -- ---- the answer
 
 -- 7 where it ends early, at its length, or where bytes follow, at the first of them; then 8
 abbrev pub message-checks : Sizes → List ℕ → List Check
 message-checks z s =
-    check (leb (lengthOf s) (length s)) (TruncatedMessage (length s))
-    ∷ check (eqb (lengthOf s) (length s)) (TruncatedMessage (lengthOf s))
-    ∷ check (goodMessage z s) BadMessage
+    check (leb (length-of s) (length s)) (TruncatedMessage (length s))
+    ∷ check (eqb (length-of s) (length s)) (TruncatedMessage (length-of s))
+    ∷ check (good-message z s) BadMessage
     ∷ []
 
-unfoldable pub answerOf : Sizes → List ℕ → Answer
-answerOf z s = first-failed (message-checks z s)
+unfoldable pub answer-of : Sizes → List ℕ → Answer
+answer-of z s = first-failed (message-checks z s)
 
 -- "A slip read is either an observation or an alive": bit 4 tells which
 abbrev pub event-if : Bool → Fields → Event
 event-if true f = Alive (f .minute) (f .number)
 event-if false f = Observation (f .minute) (f .number) (f .named) (expanded 32 (f .named) (f .packed))
 
-unfoldable pub eventIn : Fields → Event
-eventIn f = event-if (has (f .map) 4) f
+unfoldable pub event-in : Fields → Event
+event-in f = event-if (has (f .map) 4) f
 
-abbrev pub eventOf : List ℕ → Event
-eventOf s = eventIn (fieldsOf s)
+abbrev pub event-of : List ℕ → Event
+event-of s = event-in (fields-of s)
 
 -- ".. inside one answer that also holds its station"
-abbrev pub acceptedWith : Fields → Decoded
-acceptedWith f = record { answer = Accepted; component = f .component; event = eventIn f }
+abbrev pub accepted-with : Fields → Decoded
+accepted-with f = record { answer = Accepted; component = f .component; event = event-in f }
 
-abbrev pub refusedWith : Refusal → Decoded
-refusedWith r = record { answer = Refused r; component = 0; event = Alive 0 0 }
+abbrev pub refused-with : Refusal → Decoded
+refused-with r = record { answer = Refused r; component = 0; event = Alive 0 0 }
 
-abbrev pub withAnswer : Answer → List ℕ → Decoded
-withAnswer Accepted s = acceptedWith (fieldsOf s)
-withAnswer (Refused r) s = refusedWith r
+abbrev pub with-answer : Answer → List ℕ → Decoded
+with-answer Accepted s = accepted-with (fields-of s)
+with-answer (Refused r) s = refused-with r
 
-unfoldable pub decodeOf : Sizes → List ℕ → Decoded
-decodeOf z s = withAnswer (answerOf z s) s
+unfoldable pub decode-of : Sizes → List ℕ → Decoded
+decode-of z s = with-answer (answer-of z s) s

@@ -16,9 +16,9 @@ use Rattle.refusal.specs.Checks.{Refuses, here, there}
 use Rattle.refusal.specs.Laws.{not-accepted, refusal-law}
 use Rattle.policy.specs.declared.Sizes.{Sizes}
 use Rattle.message.specs.declared.Event.{Event}
-use Rattle.message.specs.Format.{lengthOf, goodMessage, fieldsOf, message-checks, answerOf, withAnswer, decodeOf}
+use Rattle.message.specs.Format.{length-of, good-message, fields-of, message-checks, answer-of, with-answer, decode-of}
 use Rattle.message.specs.Encoded.{Is-event, is-observation, is-alive, Is-message}
-use Rattle.message.specs.Fixes.{Well-formed, meaningOf, Fits-event, Fits}
+use Rattle.message.specs.Fixes.{Well-formed, meaning-of, Fits-event, Fits}
 use Rattle.message.specs.Proper.{Cut, early, extra, Causes}
 use Rattle.message.specs.Reads.{refuses, takes, reads, accepts}
 
@@ -28,31 +28,31 @@ module _ (z : Sizes) (s : List ℕ) where
   cut : (at : ℕ) → Refuses (message-checks z s) (TruncatedMessage at) → Cut s at
   cut at (here p) = early (leb-false _ _ p)
   cut at (there p (here q)) =
-      let n : (lengthOf s ≡ length s → ⊥) = eqb-false (lengthOf s) (length s) q in
-      extra (omega (arith, leb-true (lengthOf s) (length s) p))
+      let n : (length-of s ≡ length s → ⊥) = eqb-false (length-of s) (length s) q in
+      extra (omega (arith, leb-true (length-of s) (length s) p))
   cut at (there p (there q (there g n))) = elim n [ ]
 
   uncut : {at : ℕ} → Cut s at → Refuses (message-checks z s) (TruncatedMessage at)
   uncut (early h) = here (lt-leb _ _ h)
-  uncut (extra h) = there (le-leb (lengthOf s) (length s) (omega arith)) (here (ne-eqb (lengthOf s) (length s) (λ e. omega arith)))
+  uncut (extra h) = there (le-leb (length-of s) (length s) (omega arith)) (here (ne-eqb (length-of s) (length s) (λ e. omega arith)))
 
-  pub refused-cut : (at : ℕ) → Cut s at → answerOf z s ≡ Refused (TruncatedMessage at)
-  unfolding answerOf
+  pub refused-cut : (at : ℕ) → Cut s at → answer-of z s ≡ Refused (TruncatedMessage at)
+  unfolding answer-of
   refused-cut at c = refusal-law (message-checks z s) (TruncatedMessage at) .1 (uncut c)
 
   -- 8 is after 7, and says that the bytes are no message
-  broken : Refuses (message-checks z s) BadMessage → length s ≡ lengthOf s
+  broken : Refuses (message-checks z s) BadMessage → length s ≡ length-of s
   broken (there p (there q (here g))) = sym (eqb-true _ _ q)
 
-  refused-bad : length s ≡ lengthOf s → (Is-message z s → ⊥) → answerOf z s ≡ Refused BadMessage
-  refused-bad e other = go (goodMessage z s) refl
+  refused-bad : length s ≡ length-of s → (Is-message z s → ⊥) → answer-of z s ≡ Refused BadMessage
+  refused-bad e other = go (good-message z s) refl
     where
-      go : (b : Bool) → goodMessage z s ≡ b → answerOf z s ≡ Refused BadMessage
+      go : (b : Bool) → good-message z s ≡ b → answer-of z s ≡ Refused BadMessage
       go true g = absurd (other (accepts z s .0 (takes z s e g)))
       go false g = refuses z s e g
 
   pub causes : Causes z s
-  unfolding answerOf
+  unfolding answer-of
   causes = record {
     seven = λ at. (λ e. cut at (refusal-law (message-checks z s) (TruncatedMessage at) .0 e), λ c. refused-cut at c);
     eight = (
@@ -64,20 +64,20 @@ module _ (z : Sizes) (s : List ℕ) where
 
 -- ---- what is decoded
 
-pub decodes : (z : Sizes) (s : List ℕ) (a : Answer) → answerOf z s ≡ a → decodeOf z s ≡ withAnswer a s
-unfolding decodeOf
-decodes z s a e = ap (λ (x : Answer). withAnswer x s) e
+pub decodes : (z : Sizes) (s : List ℕ) (a : Answer) → answer-of z s ≡ a → decode-of z s ≡ with-answer a s
+unfolding decode-of
+decodes z s a e = ap (λ (x : Answer). with-answer x s) e
 
 pub decoded : (z : Sizes) (s : List ℕ) → Well-formed z s
-    → decodeOf z s ≡ record { answer = Accepted; component = meaningOf s .component; event = meaningOf s .event }
-unfolding decodeOf meaningOf fieldsOf
-decoded z s w = ap (λ (a : Answer). withAnswer a s) w
+    → decode-of z s ≡ record { answer = Accepted; component = meaning-of s .component; event = meaning-of s .event }
+unfolding decode-of meaning-of fields-of
+decoded z s w = ap (λ (a : Answer). with-answer a s) w
 
-pub decoded-answer : (z : Sizes) (s : List ℕ) → decodeOf z s .answer ≡ answerOf z s
-unfolding decodeOf
-decoded-answer z s = go (answerOf z s)
+pub decoded-answer : (z : Sizes) (s : List ℕ) → decode-of z s .answer ≡ answer-of z s
+unfolding decode-of
+decoded-answer z s = go (answer-of z s)
   where
-    go : (a : Answer) → withAnswer a s .answer ≡ a
+    go : (a : Answer) → with-answer a s .answer ≡ a
     go Accepted = refl
     go (Refused r) = refl
 
@@ -103,7 +103,7 @@ event-fits z few (is-observation component minute number named packed values c t
     go i true e f = e
     go i false e f = absurd (true≢false (sym f ∙ v .other-value i e))
 
-pub fits : (z : Sizes) → z .propositions ≤ 32 → (s : List ℕ) → Well-formed z s → Fits z (meaningOf s)
+pub fits : (z : Sizes) → z .propositions ≤ 32 → (s : List ℕ) → Well-formed z s → Fits z (meaning-of s)
 fits z few s w =
     let m = accepts z s .0 w in
     let f = event-fits z few (m .is-event) in

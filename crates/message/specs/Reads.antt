@@ -23,9 +23,9 @@ use Rattle.policy.specs.declared.Sizes.{Sizes}
 use Rattle.message.specs.declared.Fields.{Fields}
 use Rattle.message.specs.declared.Event.{Event}
 use Rattle.message.specs.declared.Event.the-variants.{Observation, Alive}
-use Rattle.message.specs.Format.{widths, mapOf, valuesAt, componentOf, minuteOf, numberOf, namedOf, valueBytes, packedAt, packedOf, fieldsOf, lengthOf, goodAlive, goodObservation, allWritten, goodFields, goodMessage, message-checks, answerOf, event-if, eventIn}
+use Rattle.message.specs.Format.{widths, map-of, values-at, component-of, minute-of, number-of, named-of, value-bytes, packed-at, packed-of, fields-of, length-of, good-alive, good-observation, all-written, good-fields, good-message, message-checks, answer-of, event-if, event-in}
 use Rattle.message.specs.Encoded.{Values, Is-event, is-observation, is-alive, is-alive-event, bytes-at, Is-message}
-use Rattle.message.specs.Fixes.{Message, meaningOf}
+use Rattle.message.specs.Fixes.{Message, meaning-of}
 
 both : (a b : Bool) → (a && b) ≡ true → (a ≡ true) × (b ≡ true)
 both true true e = (refl, refl)
@@ -41,8 +41,8 @@ abbrev numbers : ℕ → ℕ → ℕ → ℕ → ℕ → ℕ
 numbers component minute number named k = getD (component ∷ minute ∷ number ∷ named ∷ []) k 0
 
 -- the fields that are read are four numbers
-read-numbers : (s : List ℕ) → field widths s 0 ≡ numbers (componentOf s) (minuteOf s) (numberOf s) (namedOf s)
-unfolding componentOf minuteOf numberOf namedOf
+read-numbers : (s : List ℕ) → field widths s 0 ≡ numbers (component-of s) (minute-of s) (number-of s) (named-of s)
+unfolding component-of minute-of number-of named-of
 read-numbers s = fun-ext go
   where
     absent : (b : Bool) → _≡_ {A = ℕ} (cond b 0 0) 0
@@ -54,20 +54,20 @@ read-numbers s = fun-ext go
     go (suc zero) = refl
     go (suc (suc zero)) = refl
     go (suc (suc (suc zero))) = refl
-    go (suc (suc (suc (suc k)))) = absent (has (mapOf s) (suc (suc (suc (suc k)))))
+    go (suc (suc (suc (suc k)))) = absent (has (map-of s) (suc (suc (suc (suc k)))))
 
 -- none of them is written as 0
-none-zero : (s : List ℕ) → allWritten (fieldsOf s) ≡ true
-    → (k : ℕ) → k < length widths → written (has (mapOf s) k) (field widths s 0 k) ≡ true
-unfolding allWritten fieldsOf componentOf minuteOf numberOf namedOf
+none-zero : (s : List ℕ) → all-written (fields-of s) ≡ true
+    → (k : ℕ) → k < length widths → written (has (map-of s) k) (field widths s 0 k) ≡ true
+unfolding all-written fields-of component-of minute-of number-of named-of
 none-zero s e k h =
-    let component = both (written (has (mapOf s) 0) (field widths s 0 0)) _ e in
-    let minute = both (written (has (mapOf s) 1) (field widths s 0 1)) _ (component .1) in
-    let number = both (written (has (mapOf s) 2) (field widths s 0 2)) _ (minute .1) in
+    let component = both (written (has (map-of s) 0) (field widths s 0 0)) _ e in
+    let minute = both (written (has (map-of s) 1) (field widths s 0 1)) _ (component .1) in
+    let number = both (written (has (map-of s) 2) (field widths s 0 2)) _ (minute .1) in
     go k h (component .0) (minute .0) (number .0) (number .1)
   where
     kept : ℕ → Type 0
-    kept k = written (has (mapOf s) k) (field widths s 0 k) ≡ true
+    kept k = written (has (map-of s) k) (field widths s 0 k) ≡ true
 
     go : (k : ℕ) → k < 4 → kept 0 → kept 1 → kept 2 → kept 3 → kept k
     go zero l p q u v = p
@@ -87,11 +87,11 @@ extent-of ws s at v l = go (length ws) (λ k h. l .bits k h)
 
 -- ---- the values
 
-value-bytes-le : (named : ℕ) → valueBytes named ≤ 4
+value-bytes-le : (named : ℕ) → value-bytes named ≤ 4
 value-bytes-le named = omega (arith, below-le 32 named)
 
 -- the value bytes, as they are read, are the number that stands there
-packed-bytes : (s : List ℕ) (at n : ℕ) → n ≤ 4 → packedAt s n at ≡ bytes-at s at n
+packed-bytes : (s : List ℕ) (at n : ℕ) → n ≤ 4 → packed-at s n at ≡ bytes-at s at n
 packed-bytes s at zero h = refl
 packed-bytes s at (suc zero) h = rw (add-zero at) (omega arith)
 packed-bytes s at (suc (suc zero)) h = rw (add-zero at) (omega arith)
@@ -99,9 +99,9 @@ packed-bytes s at (suc (suc (suc zero))) h = rw (add-zero at) (omega arith)
 packed-bytes s at (suc (suc (suc (suc zero)))) h = rw (add-zero at) (omega arith)
 packed-bytes s at (suc (suc (suc (suc (suc n))))) h = absurd (omega arith)
 
-no-values : (s : List ℕ) → namedOf s ≡ 0 → packedOf s ≡ 0
-unfolding packedOf below digit
-no-values s e = ap (λ (n : ℕ). packedAt s (valueBytes n) (valuesAt (mapOf s))) e
+no-values : (s : List ℕ) → named-of s ≡ 0 → packed-of s ≡ 0
+unfolding packed-of below digit
+no-values s e = ap (λ (n : ℕ). packed-at s (value-bytes n) (values-at (map-of s))) e
 
 its-values : (named packed : ℕ) → Values named packed (expanded 32 named packed)
 its-values named packed = record {
@@ -116,8 +116,8 @@ only-values named packed values v = expanded-only 32 named packed values (v .sma
 -- ---- the event
 
 -- "bit 4 makes it an alive slip"
-event-kind : (f : Fields) → has (f .map) 4 ≡ is-alive-event (eventIn f)
-unfolding eventIn
+event-kind : (f : Fields) → has (f .map) 4 ≡ is-alive-event (event-in f)
+unfolding event-in
 event-kind f = go (has (f .map) 4)
   where
     go : (b : Bool) → b ≡ is-alive-event (event-if b f)
@@ -126,16 +126,16 @@ event-kind f = go (has (f .map) 4)
 
 module _ (z : Sizes) where
   -- fields that pass the rules are an event; an alive one has no values
-  good-event : (f : Fields) → (f .named ≡ 0 → f .packed ≡ 0) → goodFields z f ≡ true
-      → Is-event z (f .component) (f .minute) (f .number) (f .named) (f .packed) (eventIn f)
-  unfolding goodFields goodAlive goodObservation eventIn
+  good-event : (f : Fields) → (f .named ≡ 0 → f .packed ≡ 0) → good-fields z f ≡ true
+      → Is-event z (f .component) (f .minute) (f .number) (f .named) (f .packed) (event-in f)
+  unfolding good-fields good-alive good-observation event-in
   good-event f empty g =
       let map = both (ltb (f .map) 32) _ g in
-      let fields = both (allWritten f) _ (map .1) in
+      let fields = both (all-written f) _ (map .1) in
       let component = both (ltb (f .component) (z .components)) _ (fields .1) in
       go (has (f .map) 4) (ltb-true _ _ (component .0)) (component .1)
     where
-      go : (b : Bool) → f .component < z .components → cond b (goodAlive z f) (goodObservation z f) ≡ true
+      go : (b : Bool) → f .component < z .components → cond b (good-alive z f) (good-observation z f) ≡ true
           → Is-event z (f .component) (f .minute) (f .number) (f .named) (f .packed) (event-if b f)
       go true c e =
           let named = both (eqb (f .named) 0) _ e in
@@ -155,14 +155,14 @@ module _ (z : Sizes) where
 
   -- an event's numbers pass the rules, and the event is the one that is read
   record Good (f : Fields) (e : Event) : Type 0 where
-    rules : goodFields z f ≡ true
-    same : eventIn f ≡ e
+    rules : good-fields z f ≡ true
+    same : event-in f ≡ e
 
   event-good : {component minute number named packed : ℕ} {e : Event} (map : ℕ) → map < 32 → has map 4 ≡ is-alive-event e
-      → allWritten (record { map = map; component = component; minute = minute; number = number; named = named; packed = packed }) ≡ true
+      → all-written (record { map = map; component = component; minute = minute; number = number; named = named; packed = packed }) ≡ true
       → Is-event z component minute number named packed e
       → Good (record { map = map; component = component; minute = minute; number = number; named = named; packed = packed }) e
-  unfolding goodFields goodAlive goodObservation eventIn
+  unfolding good-fields good-alive good-observation event-in
   event-good map m k w (is-alive component minute number c t) = record {
     rules = and (lt-ltb map 32 m) (and w (and (lt-ltb component (z .components) c) (rw k (le-leb minute (z .minutes) t))));
     same = rw k;
@@ -179,51 +179,51 @@ module _ (z : Sizes) where
 -- ---- the checks
 
 module _ (z : Sizes) (s : List ℕ) where
-  pub kept : answerOf z s ≡ Accepted → (length s ≡ lengthOf s) × (goodMessage z s ≡ true)
-  unfolding answerOf
+  pub kept : answer-of z s ≡ Accepted → (length s ≡ length-of s) × (good-message z s ≡ true)
+  unfolding answer-of
   kept e = go (passing-law (message-checks z s) .0 e)
     where
-      go : Passed (message-checks z s) → (length s ≡ lengthOf s) × (goodMessage z s ≡ true)
+      go : Passed (message-checks z s) → (length s ≡ length-of s) × (good-message z s ≡ true)
       go (pass p (pass q (pass g none))) = (sym (eqb-true _ _ q), g)
 
-  module _ (e : length s ≡ lengthOf s) where
-    early-passed : leb (lengthOf s) (length s) ≡ true
-    early-passed = le-leb (lengthOf s) (length s) (omega arith)
+  module _ (e : length s ≡ length-of s) where
+    early-passed : leb (length-of s) (length s) ≡ true
+    early-passed = le-leb (length-of s) (length s) (omega arith)
 
-    extra-passed : eqb (lengthOf s) (length s) ≡ true
-    extra-passed = eq-eqb (lengthOf s) (length s) (sym e)
+    extra-passed : eqb (length-of s) (length s) ≡ true
+    extra-passed = eq-eqb (length-of s) (length s) (sym e)
 
-    pub refuses : goodMessage z s ≡ false → answerOf z s ≡ Refused BadMessage
-    unfolding answerOf
+    pub refuses : good-message z s ≡ false → answer-of z s ≡ Refused BadMessage
+    unfolding answer-of
     refuses g = refusal-law (message-checks z s) BadMessage .1 (there early-passed (there extra-passed (here g)))
 
-    pub takes : goodMessage z s ≡ true → answerOf z s ≡ Accepted
-    unfolding answerOf
+    pub takes : good-message z s ≡ true → answer-of z s ≡ Accepted
+    unfolding answer-of
     takes g = passing-law (message-checks z s) .1 (pass early-passed (pass extra-passed (pass g none)))
 
   -- ---- the theorem
 
-  is-message : answerOf z s ≡ Accepted → Is-message z s
-  unfolding goodFields fieldsOf lengthOf packedOf
+  is-message : answer-of z s ≡ Accepted → Is-message z s
+  unfolding good-fields fields-of length-of packed-of
   is-message e =
       let k = kept e in
-      let map = both (ltb (mapOf s) 32) _ (k .1) in
-      let written = none-zero s (both (allWritten (fieldsOf s)) _ (map .1) .0) in
+      let map = both (ltb (map-of s) 32) _ (k .1) in
+      let written = none-zero s (both (all-written (fields-of s)) _ (map .1) .0) in
       let laid = subst (Laid widths s 0) (read-numbers s) (fields-laid widths s 0 written) in
       record {
-        component = componentOf s;
-        minute = minuteOf s;
-        number = numberOf s;
-        named = namedOf s;
-        packed = packedOf s;
-        event = eventIn (fieldsOf s);
-        is-event = good-event z (fieldsOf s) (no-values s) (k .1);
+        component = component-of s;
+        minute = minute-of s;
+        number = number-of s;
+        named = named-of s;
+        packed = packed-of s;
+        event = event-in (fields-of s);
+        is-event = good-event z (fields-of s) (no-values s) (k .1);
         laid = laid;
-        alive = event-kind (fieldsOf s);
+        alive = event-kind (fields-of s);
         spare = ltb-true _ _ (map .0);
-        at = valuesAt (mapOf s);
-        behind = extent-of widths s 0 (numbers (componentOf s) (minuteOf s) (numberOf s) (namedOf s)) laid;
-        values = sym (packed-bytes s (valuesAt (mapOf s)) (valueBytes (namedOf s)) (value-bytes-le (namedOf s)));
+        at = values-at (map-of s);
+        behind = extent-of widths s 0 (numbers (component-of s) (minute-of s) (number-of s) (named-of s)) laid;
+        values = sym (packed-bytes s (values-at (map-of s)) (value-bytes (named-of s)) (value-bytes-le (named-of s)));
         ends = k .0;
       }
 
@@ -232,25 +232,25 @@ module _ (z : Sizes) (s : List ℕ) where
     laid-numbers = numbers (m .component) (m .minute) (m .number) (m .named)
 
     abbrev said : Fields
-    said = record { map = mapOf s; component = m .component; minute = m .minute; number = m .number; named = m .named; packed = m .packed }
+    said = record { map = map-of s; component = m .component; minute = m .minute; number = m .number; named = m .named; packed = m .packed }
 
-    named-read : namedOf s ≡ m .named
-    unfolding namedOf
+    named-read : named-of s ≡ m .named
+    unfolding named-of
     named-read = laid-field widths s 0 laid-numbers (m .laid) 3 (omega arith)
 
-    values-behind : valuesAt (mapOf s) ≡ m .at
+    values-behind : values-at (map-of s) ≡ m .at
     values-behind = extent-of widths s 0 laid-numbers (m .laid) ∙ sym (m .behind)
 
-    packed-read : packedOf s ≡ m .packed
-    unfolding packedOf
+    packed-read : packed-of s ≡ m .packed
+    unfolding packed-of
     packed-read =
-        ap₂ (λ (n at : ℕ). packedAt s (valueBytes n) at) named-read values-behind
-        ∙ packed-bytes s (m .at) (valueBytes (m .named)) (value-bytes-le (m .named))
+        ap₂ (λ (n at : ℕ). packed-at s (value-bytes n) at) named-read values-behind
+        ∙ packed-bytes s (m .at) (value-bytes (m .named)) (value-bytes-le (m .named))
         ∙ m .values
 
     -- the fields are read as they stand
-    fields-read : fieldsOf s ≡ said
-    unfolding fieldsOf componentOf minuteOf numberOf
+    fields-read : fields-of s ≡ said
+    unfolding fields-of component-of minute-of number-of
     fields-read =
         rw (
           laid-field widths s 0 laid-numbers (m .laid) 0 (omega arith),
@@ -260,33 +260,33 @@ module _ (z : Sizes) (s : List ℕ) where
           packed-read,
         )
 
-    fields-written : allWritten (fieldsOf s) ≡ true
-    unfolding allWritten fieldsOf componentOf minuteOf numberOf namedOf
+    fields-written : all-written (fields-of s) ≡ true
+    unfolding all-written fields-of component-of minute-of number-of named-of
     fields-written =
         let w = laid-written widths s 0 laid-numbers (m .laid) in
         and (w 0 (omega arith)) (and (w 1 (omega arith)) (and (w 2 (omega arith)) (w 3 (omega arith))))
 
     good : Good z said (m .event)
-    good = event-good z (mapOf s) (m .spare) (m .alive) (sym (ap allWritten fields-read) ∙ fields-written) (m .is-event)
+    good = event-good z (map-of s) (m .spare) (m .alive) (sym (ap all-written fields-read) ∙ fields-written) (m .is-event)
 
-    whole : length s ≡ lengthOf s
-    unfolding lengthOf
-    whole = m .ends ∙ sym (ap₂ (λ (n at : ℕ). at + valueBytes n) named-read values-behind)
+    whole : length s ≡ length-of s
+    unfolding length-of
+    whole = m .ends ∙ sym (ap₂ (λ (n at : ℕ). at + value-bytes n) named-read values-behind)
 
-    accepted : answerOf z s ≡ Accepted
-    accepted = takes whole (ap (goodFields z) fields-read ∙ good .rules)
+    accepted : answer-of z s ≡ Accepted
+    accepted = takes whole (ap (good-fields z) fields-read ∙ good .rules)
 
     -- what is read is what stands there
-    pub reads : meaningOf s ≡ record { component = m .component; event = m .event }
-    unfolding meaningOf fieldsOf
+    pub reads : meaning-of s ≡ record { component = m .component; event = m .event }
+    unfolding meaning-of fields-of
     reads = ap says fields-read ∙ ap (λ (e : Event). message (m .component) e) (good .same)
       where
         message : ℕ → Event → Message
         message component event = record { component = component; event = event }
 
         says : Fields → Message
-        says f = message (f .component) (eventIn f)
+        says f = message (f .component) (event-in f)
 
   -- "A slip that neither 7 nor 8 turns away": just the messages
-  pub accepts : (answerOf z s ≡ Accepted) ↔ Is-message z s
+  pub accepts : (answer-of z s ≡ Accepted) ↔ Is-message z s
   accepts = (is-message, accepted)

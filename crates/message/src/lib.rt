@@ -15,7 +15,7 @@ ghost use lib.Dec.{ltb};
 ghost use lib.ListN.{length};
 ghost use Rattle.bits.specs.Digits.{below, expanded};
 ghost use Rattle.encoding.specs.Fields.{field8};
-ghost use Rattle.message.specs.Format.{minuteAt, numberAt, namedAt, valuesAt, valueBytes, packedAt, fieldsOf, lengthOf, measured, goodAlive, goodObservation, goodEvent, allWritten, goodFields, eventIn, refusedWith, decodeOf};
+ghost use Rattle.message.specs.Format.{minute-at, number-at, named-at, values-at, value-bytes, packed-at, fields-of, length-of, measured, good-alive, good-observation, good-event, all-written, good-fields, event-in, refused-with, decode-of};
 
 // The bits of the map: which fields follow it, in their order, and whether it is an alive slip.
 const COMPONENT: u8 = 1;
@@ -72,25 +72,25 @@ pub struct Fields {
 
 // Where the minute starts; the others follow.
 fn minute_at(map: u8) -> usize
-    ensures { λ r. ⌜ (r ≡ minuteAt map) × (r ≤ 2) ⌝ }
+    ensures { λ r. ⌜ (r ≡ minute-at map) × (r ≤ 2) ⌝ }
 {
     1 + size_of(has(map, COMPONENT), 1)
 }
 
 fn number_at(map: u8) -> usize
-    ensures { λ r. ⌜ (r ≡ numberAt map) × (r ≤ 4) ⌝ }
+    ensures { λ r. ⌜ (r ≡ number-at map) × (r ≤ 4) ⌝ }
 {
     minute_at(map) + size_of(has(map, MINUTE), 2)
 }
 
 fn named_at(map: u8) -> usize
-    ensures { λ r. ⌜ (r ≡ namedAt map) × (r ≤ 6) ⌝ }
+    ensures { λ r. ⌜ (r ≡ named-at map) × (r ≤ 6) ⌝ }
 {
     number_at(map) + size_of(has(map, NUMBER), 2)
 }
 
 fn values_at(map: u8) -> usize
-    ensures { λ r. ⌜ (r ≡ valuesAt map) × (r ≤ 10) ⌝ }
+    ensures { λ r. ⌜ (r ≡ values-at map) × (r ≤ 10) ⌝ }
 {
     named_at(map) + size_of(has(map, NAMED), 4)
 }
@@ -104,7 +104,7 @@ fn count(named: u32) -> usize
 
 // How many bytes their values take, a bit each.
 fn value_bytes(named: u32) -> usize
-    ensures { λ r. ⌜ (r ≡ valueBytes named) × (r ≤ 4) ⌝ }
+    ensures { λ r. ⌜ (r ≡ value-bytes named) × (r ≤ 4) ⌝ }
 {
     (count(named) + 7) / 8
 }
@@ -123,7 +123,7 @@ fn value_byte(s: &[u8], n: usize, at: usize, j: usize) -> u8
 // The value bytes as one number, the first byte lowest.
 fn packed_at(s: &[u8], n: usize, at: usize) -> u32
     requires { ⌜ at + n ≤ length (now s) ⌝ }
-    ensures { λ r. ⌜ r ≡ packedAt (now (s .entry)) n at ⌝ }
+    ensures { λ r. ⌜ r ≡ packed-at (now (s .entry)) n at ⌝ }
 {
     let a = value_byte(s, n, at, 0);
     let b = value_byte(s, n, at, 1);
@@ -134,8 +134,8 @@ fn packed_at(s: &[u8], n: usize, at: usize) -> u32
 
 // The fields of a message that has all its bytes.
 fn fields_of(s: &[u8]) -> Fields
-    requires { ⌜ lengthOf (now s) ≤ length (now s) ⌝ }
-    ensures { λ r. ⌜ r ≡ fieldsOf (now (s .entry)) ⌝ }
+    requires { ⌜ length-of (now s) ≤ length (now s) ⌝ }
+    ensures { λ r. ⌜ r ≡ fields-of (now (s .entry)) ⌝ }
 {
     let map = s[0];
     let component = read8(s, has(map, COMPONENT), 1);
@@ -202,14 +202,14 @@ fn fits_below(word: u32, k: usize) -> bool
 
 // The rules of an alive slip.
 fn good_alive(f: Fields, sizes: Sizes) -> bool
-    ensures { λ r. ⌜ r ≡ goodAlive sizes f ⌝ }
+    ensures { λ r. ⌜ r ≡ good-alive sizes f ⌝ }
 {
     (f.named == 0) & (f.minute as usize <= sizes.minutes)
 }
 
 // The rules of an observation.
 fn good_observation(f: Fields, sizes: Sizes) -> bool
-    ensures { λ r. ⌜ r ≡ goodObservation sizes f ⌝ }
+    ensures { λ r. ⌜ r ≡ good-observation sizes f ⌝ }
 {
     let named = fits_below(f.named, sizes.propositions);
     let packed = fits_below(f.packed, count(f.named));
@@ -218,7 +218,7 @@ fn good_observation(f: Fields, sizes: Sizes) -> bool
 
 // The rules of its kind.
 fn good_event(f: Fields, sizes: Sizes) -> bool
-    ensures { λ r. ⌜ r ≡ goodEvent sizes f ⌝ }
+    ensures { λ r. ⌜ r ≡ good-event sizes f ⌝ }
 {
     if has(f.map, ALIVE) {
         return good_alive(f, sizes);
@@ -228,7 +228,7 @@ fn good_event(f: Fields, sizes: Sizes) -> bool
 
 // No written field is 0.
 fn all_written(f: Fields) -> bool
-    ensures { λ r. ⌜ r ≡ allWritten f ⌝ }
+    ensures { λ r. ⌜ r ≡ all-written f ⌝ }
 {
     let component = is_written(has(f.map, COMPONENT), f.component as u32);
     let minute = is_written(has(f.map, MINUTE), f.minute as u32);
@@ -239,7 +239,7 @@ fn all_written(f: Fields) -> bool
 
 // The rules of a message.
 fn good_fields(f: Fields, sizes: Sizes) -> bool
-    ensures { λ r. ⌜ r ≡ goodFields sizes f ⌝ }
+    ensures { λ r. ⌜ r ≡ good-fields sizes f ⌝ }
 {
     let written = all_written(f);
     let event = good_event(f, sizes);
@@ -248,7 +248,7 @@ fn good_fields(f: Fields, sizes: Sizes) -> bool
 
 // What the fields say.
 fn event_in(f: Fields) -> Event
-    ensures { λ r. ⌜ r ≡ eventIn f ⌝ }
+    ensures { λ r. ⌜ r ≡ event-in f ⌝ }
 {
     if has(f.map, ALIVE) {
         return Event::Alive {
@@ -267,7 +267,7 @@ fn event_in(f: Fields) -> Event
 
 // What is answered to a message that is turned away.
 fn refused(r: Refusal) -> Decoded
-    ensures { λ d. ⌜ d ≡ refusedWith r ⌝ }
+    ensures { λ d. ⌜ d ≡ refused-with r ⌝ }
 {
     let answer = Answer::Refused(r);
     let event = Event::Alive {
@@ -283,7 +283,7 @@ fn refused(r: Refusal) -> Decoded
 
 // The message, or why it is turned away.
 pub fn decode(s: &[u8], sizes: Sizes) -> Decoded
-    ensures { λ r. ⌜ r ≡ decodeOf sizes (now (s .entry)) ⌝ }
+    ensures { λ r. ⌜ r ≡ decode-of sizes (now (s .entry)) ⌝ }
 {
     match measure(s) {
         Length::EndsEarly => refused(Refusal::TruncatedMessage(s.len())),

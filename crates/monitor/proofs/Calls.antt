@@ -15,13 +15,13 @@ use Rattle.refusal.specs.Laws.{in-order, passing-law, passed-parts, not-accepte
 use Rattle.policy.specs.declared.Sizes.{Sizes}
 use Rattle.policy.specs.declared.Policy.{Policy}
 use Rattle.policy.specs.declared.Decoded.{Decoded as Decoded-policy}
-use Rattle.policy.specs.Format.{policy-checks, answerOf, policyOf, decodeOf as decode-policy}
+use Rattle.policy.specs.Format.{policy-checks, answer-of, policy-of, decode-of as decode-policy}
 use Rattle.policy.specs.Proper.{Proper}
 use Rattle.policy.specs.Laws.{accepted}
 use Rattle.message.specs.declared.Event.{Event}
 use Rattle.message.specs.declared.Decoded.{Decoded}
-use Rattle.message.specs.Format.{message-checks, answerOf as message-answer, decodeOf}
-use Rattle.message.specs.Fixes.{Message, Fits, Well-formed, meaningOf}
+use Rattle.message.specs.Format.{message-checks, answer-of as message-answer, decode-of}
+use Rattle.message.specs.Fixes.{Message, Fits, Well-formed, meaning-of}
 use Rattle.message.specs.Laws.{decoded, decoded-answer, fits}
 use Rattle.knowledge.specs.Knowledge.{Knowledge, Sound, sound, admits, Sized as Long}
 use Rattle.knowledge.specs.Laws.{Limits, sound-law}
@@ -30,7 +30,7 @@ use Rattle.monitor.specs.declared.Answer.{Answer}
 use Rattle.monitor.specs.declared.Answer.the-variants.{Done, Received, Refused}
 use Rattle.monitor.specs.State.{State, lent, Outcome, unless, Sized, sizes-fit, sized, opened, settled, slip-checks, take-message, size-checks, record-checks, opening-checks, take-checks, open-state, receive}
 use Rattle.monitor.specs.Checked.{Checks}
-use Rattle.monitor.specs.Laws.{long-of, sized-law}
+use Rattle.monitor.specs.Laws.{knowledge-sized, sized-law}
 use Rattle.monitor.proofs.Decoding.{Read, answered, read-policy}
 
 -- what comes after the first checks comes only where they pass
@@ -71,32 +71,32 @@ module _ (xs : List Check) (b : Bool) (r : Refusal) (s : List ℕ) (d : Decoded-
 
 -- what the reader hands out
 pub reads : (s : List ℕ) (d : Decoded-policy) → d ≡ decode-policy s → Checks (policy-checks s) s d
-unfolding answerOf
+unfolding answer-of
 reads s d e = record { answer = sym (answered s d (d .answer) e refl); policy = λ f. read-policy s d e f .same }
 
 -- an accepted policy is in range
-pub read-of : (xs : List Check) (s : List ℕ) (d : Decoded-policy) → Checks xs s d → d .answer ≡ C.Accepted → answerOf s ≡ C.Accepted → Read s (d .policy)
+pub read-of : (xs : List Check) (s : List ℕ) (d : Decoded-policy) → Checks xs s d → d .answer ≡ C.Accepted → answer-of s ≡ C.Accepted → Read s (d .policy)
 read-of xs s d k e f = record { card = f; same = k .policy e; proper = subst Proper (sym (k .policy e)) (accepted s f) }
 
 -- 5, after the reader
 module _ (s : List ℕ) (n f v e : ℕ) (d : Decoded-policy) (r : d ≡ decode-policy s) where
   pub sizes-refused : (q : Refusal) → d .answer ≡ C.Refused q → Checks (size-checks s n f v e) s d
-  sizes-refused q a = still-refused (policy-checks s) (sizes-fit (policyOf s) n f v e) BufferSize s d (reads s d r) q a
+  sizes-refused q a = still-refused (policy-checks s) (sizes-fit (policy-of s) n f v e) BufferSize s d (reads s d r) q a
 
   module _ (a : d .answer ≡ C.Accepted) where
-    fitted : (b : Bool) → sizes-fit (d .policy) n f v e ≡ b → sizes-fit (policyOf s) n f v e ≡ b
+    fitted : (b : Bool) → sizes-fit (d .policy) n f v e ≡ b → sizes-fit (policy-of s) n f v e ≡ b
     fitted b = subst (λ (p : Policy). sizes-fit p n f v e ≡ b) (read-policy s d r a .same)
 
     pub sizes-misfit : sizes-fit (d .policy) n f v e ≡ false → Checks (size-checks s n f v e) s (record { answer = C.Refused BufferSize; policy = d .policy })
-    sizes-misfit t = then-refused (policy-checks s) (sizes-fit (policyOf s) n f v e) BufferSize s d (reads s d r) (d .policy) a (fitted false t)
+    sizes-misfit t = then-refused (policy-checks s) (sizes-fit (policy-of s) n f v e) BufferSize s d (reads s d r) (d .policy) a (fitted false t)
 
     pub sizes-fine : sizes-fit (d .policy) n f v e ≡ true → Checks (size-checks s n f v e) s d
-    sizes-fine t = then-passed (policy-checks s) (sizes-fit (policyOf s) n f v e) BufferSize s d (reads s d r) a (fitted true t)
+    sizes-fine t = then-passed (policy-checks s) (sizes-fit (policy-of s) n f v e) BufferSize s d (reads s d r) a (fitted true t)
 
 module _ (s : List ℕ) (n f v e : ℕ) (d : Decoded-policy) (k : Checks (size-checks s n f v e) s d) (a : d .answer ≡ C.Accepted) where
-  passed-sizes : (answerOf s ≡ C.Accepted) × (sizes-fit (policyOf s) n f v e ≡ true)
-  unfolding answerOf
-  passed-sizes = one-more (policy-checks s) (sizes-fit (policyOf s) n f v e) BufferSize (sym (k .answer) ∙ a)
+  passed-sizes : (answer-of s ≡ C.Accepted) × (sizes-fit (policy-of s) n f v e ≡ true)
+  unfolding answer-of
+  passed-sizes = one-more (policy-checks s) (sizes-fit (policy-of s) n f v e) BufferSize (sym (k .answer) ∙ a)
 
   pub sizes-read : Read s (d .policy)
   sizes-read = read-of (size-checks s n f v e) s d k a (passed-sizes .0)
@@ -115,60 +115,60 @@ module _ (s : List ℕ) (k : Knowledge) (v e : ℕ) (d : Decoded-policy) (c : Ch
   firsts = size-checks s (length (k .numbers)) (length (k .facts)) v e
 
   pub record-refused : (q : Refusal) → d .answer ≡ C.Refused q → Checks (record-checks s k v e) s d
-  record-refused q a = still-refused firsts (sound (policyOf s .sizes) k) CorruptKnowledge s d c q a
+  record-refused q a = still-refused firsts (sound (policy-of s .sizes) k) CorruptKnowledge s d c q a
 
   module _ (a : d .answer ≡ C.Accepted) where
-    tested : (b : Bool) → sound (d .policy .sizes) k ≡ b → sound (policyOf s .sizes) k ≡ b
+    tested : (b : Bool) → sound (d .policy .sizes) k ≡ b → sound (policy-of s .sizes) k ≡ b
     tested b = subst (λ (p : Policy). sound (p .sizes) k ≡ b) (c .policy a)
 
     pub record-corrupt : sound (d .policy .sizes) k ≡ false → Checks (record-checks s k v e) s (record { answer = C.Refused CorruptKnowledge; policy = d .policy })
-    record-corrupt t = then-refused firsts (sound (policyOf s .sizes) k) CorruptKnowledge s d c (d .policy) a (tested false t)
+    record-corrupt t = then-refused firsts (sound (policy-of s .sizes) k) CorruptKnowledge s d c (d .policy) a (tested false t)
 
     pub record-fine : sound (d .policy .sizes) k ≡ true → Checks (record-checks s k v e) s d
-    record-fine t = then-passed firsts (sound (policyOf s .sizes) k) CorruptKnowledge s d c a (tested true t)
+    record-fine t = then-passed firsts (sound (policy-of s .sizes) k) CorruptKnowledge s d c a (tested true t)
 
 module _ (s : List ℕ) (x : State) (d : Decoded-policy)
     (k : Checks (record-checks s (x .known) (length (x .valuation)) (length (x .verdicts))) s d) (a : d .answer ≡ C.Accepted) where
-  passed-record : (first-failed (opening-checks s x) ≡ C.Accepted) × (sound (policyOf s .sizes) (x .known) ≡ true)
-  passed-record = one-more (opening-checks s x) (sound (policyOf s .sizes) (x .known)) CorruptKnowledge (sym (k .answer) ∙ a)
+  passed-record : (first-failed (opening-checks s x) ≡ C.Accepted) × (sound (policy-of s .sizes) (x .known) ≡ true)
+  passed-record = one-more (opening-checks s x) (sound (policy-of s .sizes) (x .known)) CorruptKnowledge (sym (k .answer) ∙ a)
 
-  passed-first : (answerOf s ≡ C.Accepted) × (sized (policyOf s) x ≡ true)
-  unfolding answerOf
-  passed-first = one-more (policy-checks s) (sized (policyOf s) x) BufferSize (passed-record .0)
+  passed-first : (answer-of s ≡ C.Accepted) × (sized (policy-of s) x ≡ true)
+  unfolding answer-of
+  passed-first = one-more (policy-checks s) (sized (policy-of s) x) BufferSize (passed-record .0)
 
   pub record-read : Read s (d .policy)
   record-read = read-of _ s d k a (passed-first .0)
 
   pub record-sized : Sized (d .policy) x
-  record-sized = subst (λ (p : Policy). Sized p x) (sym (k .policy a)) (sized-law (policyOf s) x .0 (passed-first .1))
+  record-sized = subst (λ (p : Policy). Sized p x) (sym (k .policy a)) (sized-law (policy-of s) x .0 (passed-first .1))
 
   pub record-sound : Sound (d .policy .sizes) (x .known)
-  record-sound = subst (λ (p : Policy). Sound (p .sizes) (x .known)) (sym (k .policy a)) (sound-law (policyOf s .sizes) (x .known) .0 (passed-record .1))
+  record-sound = subst (λ (p : Policy). Sound (p .sizes) (x .known)) (sym (k .policy a)) (sound-law (policy-of s .sizes) (x .known) .0 (passed-record .1))
 
 -- ---- an opening
 
 module _ (s : List ℕ) (x : State) (d : Decoded-policy) (k : Checks (opening-checks s x) s d) where
   pub open-refused : (r : Refusal) → d .answer ≡ C.Refused r → record { answer = Refused r; state = x } ≡ open-state s x
   unfolding open-state
-  open-refused r e = sym (ap (λ (a : Checked). unless a x (record { answer = Done; state = opened (policyOf s) })) (sym (k .answer) ∙ e))
+  open-refused r e = sym (ap (λ (a : Checked). unless a x (record { answer = Done; state = opened (policy-of s) })) (sym (k .answer) ∙ e))
 
   pub open-done : (y : State) → d .answer ≡ C.Accepted → y ≡ opened (d .policy) → record { answer = Done; state = y } ≡ open-state s x
   unfolding open-state
   open-done y e f =
       ap (λ (w : State). record { answer = Done; state = w }) (f ∙ ap opened (k .policy e))
-      ∙ sym (ap (λ (a : Checked). unless a x (record { answer = Done; state = opened (policyOf s) })) (sym (k .answer) ∙ e))
+      ∙ sym (ap (λ (a : Checked). unless a x (record { answer = Done; state = opened (policy-of s) })) (sym (k .answer) ∙ e))
 
 -- ---- a take
 
 module _ (s : List ℕ) (x : State) (b : List ℕ) (d : Decoded-policy)
     (k : Checks (record-checks s (x .known) (length (x .valuation)) (length (x .verdicts))) s d) where
-  in-turn : (a : Checked) → d .answer ≡ a → unless a x (take-message (policyOf s) x b) ≡ receive s x b
+  in-turn : (a : Checked) → d .answer ≡ a → unless a x (take-message (policy-of s) x b) ≡ receive s x b
   unfolding receive
   in-turn a e =
-      sym (ap (λ (c : Checked). unless c x (settled (policyOf s) x (meaningOf b)))
-      (in-order (record-checks s (x .known) (length (x .valuation)) (length (x .verdicts))) (slip-checks (policyOf s) x b))
-      ∙ unless-then (first-failed (record-checks s (x .known) (length (x .valuation)) (length (x .verdicts)))) (first-failed (slip-checks (policyOf s) x b)) x _
-      ∙ ap (λ (c : Checked). unless c x (take-message (policyOf s) x b)) (sym (k .answer) ∙ e))
+      sym (ap (λ (c : Checked). unless c x (settled (policy-of s) x (meaning-of b)))
+      (in-order (record-checks s (x .known) (length (x .valuation)) (length (x .verdicts))) (slip-checks (policy-of s) x b))
+      ∙ unless-then (first-failed (record-checks s (x .known) (length (x .valuation)) (length (x .verdicts)))) (first-failed (slip-checks (policy-of s) x b)) x _
+      ∙ ap (λ (c : Checked). unless c x (take-message (policy-of s) x b)) (sym (k .answer) ∙ e))
 
   pub receive-refused : (r : Refusal) → d .answer ≡ C.Refused r → record { answer = Refused r; state = x } ≡ receive s x b
   receive-refused r e = in-turn (C.Refused r) e
@@ -181,12 +181,12 @@ module _ (s : List ℕ) (x : State) (b : List ℕ) (d : Decoded-policy)
 -- the message that was read
 pub record Heard (z : Sizes) (b : List ℕ) (component : ℕ) (event : Event) : Type 0 where
   pub formed : Well-formed z b
-  pub same : sent component event ≡ meaningOf b
+  pub same : sent component event ≡ meaning-of b
 
-pub message-answered : (z : Sizes) (b : List ℕ) (d : Decoded) (a : Checked) → d ≡ decodeOf z b → d .answer ≡ a → message-answer z b ≡ a
+pub message-answered : (z : Sizes) (b : List ℕ) (d : Decoded) (a : Checked) → d ≡ decode-of z b → d .answer ≡ a → message-answer z b ≡ a
 message-answered z b d a e f = sym (decoded-answer z b) ∙ ap (λ (x : Decoded). x .answer) (sym e) ∙ f
 
-pub hear : (z : Sizes) (b : List ℕ) (d : Decoded) → d ≡ decodeOf z b → d .answer ≡ C.Accepted → Heard z b (d .component) (d .event)
+pub hear : (z : Sizes) (b : List ℕ) (d : Decoded) → d ≡ decode-of z b → d .answer ≡ C.Accepted → Heard z b (d .component) (d .event)
 hear z b d e f =
     let w : Well-formed z b = message-answered z b d C.Accepted e f in
     record { formed = w; same = ap (λ (x : Decoded). sent (x .component) (x .event)) (e ∙ decoded z b w) }
@@ -197,16 +197,16 @@ heard-fits p z b component event h = subst (Fits (p .sizes)) (sym (h .same)) (fi
 
 module _ (p : Policy) (x : State) (b : List ℕ) where
   -- the message's checks, and then 9
-  answers : (a : Checked) → message-answer (p .sizes) b ≡ a → (v : Bool) → admits (p .sizes) (x .known) (meaningOf b) ≡ v
-      → unless (and-then a (first-failed (check v Conflict ∷ []))) x (settled p x (meaningOf b)) ≡ take-message p x b
+  answers : (a : Checked) → message-answer (p .sizes) b ≡ a → (v : Bool) → admits (p .sizes) (x .known) (meaning-of b) ≡ v
+      → unless (and-then a (first-failed (check v Conflict ∷ []))) x (settled p x (meaning-of b)) ≡ take-message p x b
   unfolding message-answer
-  answers a e v f = sym (ap (λ (c : Checked). unless c x (settled p x (meaningOf b))) (after-list (message-checks (p .sizes) b) (admits (p .sizes) (x .known) (meaningOf b)) Conflict a v e f))
+  answers a e v f = sym (ap (λ (c : Checked). unless c x (settled p x (meaning-of b))) (after-list (message-checks (p .sizes) b) (admits (p .sizes) (x .known) (meaning-of b)) Conflict a v e f))
 
   pub message-refused : (r : Refusal) → message-answer (p .sizes) b ≡ C.Refused r → record { answer = Refused r; state = x } ≡ take-message p x b
-  message-refused r e = answers (C.Refused r) e (admits (p .sizes) (x .known) (meaningOf b)) refl
+  message-refused r e = answers (C.Refused r) e (admits (p .sizes) (x .known) (meaning-of b)) refl
 
   module _ (component : ℕ) (event : Event) (h : Heard (p .sizes) b component event) where
-    admitted : (v : Bool) → admits (p .sizes) (x .known) (sent component event) ≡ v → admits (p .sizes) (x .known) (meaningOf b) ≡ v
+    admitted : (v : Bool) → admits (p .sizes) (x .known) (sent component event) ≡ v → admits (p .sizes) (x .known) (meaning-of b) ≡ v
     admitted v e = ap (admits (p .sizes) (x .known)) (sym (h .same)) ∙ e
 
     pub message-conflict : admits (p .sizes) (x .known) (sent component event) ≡ false → record { answer = Refused Conflict; state = x } ≡ take-message p x b

@@ -8,21 +8,21 @@ use Rattle.policy.specs.declared.Policy.{Policy}
 use Rattle.policy.specs.declared.Decoded.{Decoded}
 use Rattle.refusal.specs.declared.Answer.{Answer as Checked}
 use Rattle.refusal.specs.declared.Answer.the-variants as C
-use Rattle.policy.specs.Format.{answerOf, policyOf, decodeOf}
+use Rattle.policy.specs.Format.{answer-of, policy-of, decode-of}
 use Rattle.policy.specs.Proper.{Proper}
 use Rattle.policy.specs.Laws.{accepted, decoded, decoded-answer}
 
 -- the policy that was read
 pub record Read (s : List ℕ) (p : Policy) : Type 0 where
-  pub card : answerOf s ≡ C.Accepted
-  pub same : p ≡ policyOf s
+  pub card : answer-of s ≡ C.Accepted
+  pub same : p ≡ policy-of s
   pub proper : Proper p
 
-pub answered : (s : List ℕ) (d : Decoded) (a : Checked) → d ≡ decodeOf s → d .answer ≡ a → answerOf s ≡ a
+pub answered : (s : List ℕ) (d : Decoded) (a : Checked) → d ≡ decode-of s → d .answer ≡ a → answer-of s ≡ a
 answered s d a e f = sym (decoded-answer s) ∙ ap (λ (x : Decoded). x .answer) (sym e) ∙ f
 
-pub read-policy : (s : List ℕ) (d : Decoded) → d ≡ decodeOf s → d .answer ≡ C.Accepted → Read s (d .policy)
+pub read-policy : (s : List ℕ) (d : Decoded) → d ≡ decode-of s → d .answer ≡ C.Accepted → Read s (d .policy)
 read-policy s d e f =
     let card = answered s d C.Accepted e f in
-    let same : d .policy ≡ policyOf s = ap (λ (x : Decoded). x .policy) e ∙ decoded s card in
+    let same : d .policy ≡ policy-of s = ap (λ (x : Decoded). x .policy) e ∙ decoded s card in
     record { card = card; same = same; proper = subst Proper (sym same) (accepted s card) }

@@ -15,13 +15,13 @@ use Rattle.refusal.specs.declared.Answer.{Answer as Checked}
 use Rattle.refusal.specs.declared.Answer.the-variants as C
 use Rattle.refusal.specs.Checks.{first-failed, and-then}
 use Rattle.refusal.specs.Laws.{in-order}
-use Rattle.policy.specs.Format.{policy-checks, answerOf, policyOf}
+use Rattle.policy.specs.Format.{policy-checks, answer-of, policy-of}
 use Rattle.policy.specs.declared.Policy.{Policy}
 use Rattle.policy.specs.Proper.{Proper}
 use Rattle.monitor.specs.declared.Verdict.{Verdict}
 use Rattle.monitor.specs.declared.Look.{Look}
 use Rattle.monitor.specs.declared.Look.the-variants.{Shows, Refused}
-use Rattle.monitor.specs.Lookup.{verdictOf, show-unless, sheet-checks, code-at, look-at, lookupOf}
+use Rattle.monitor.specs.Lookup.{verdict-of, show-unless, sheet-checks, code-at, look-at, lookup-of}
 use Rattle.monitor.proofs.Decoding.{Read}
 
 module _ (p : Policy) (v : List ℕ) (r t : ℕ) where
@@ -39,7 +39,7 @@ module _ (p : Policy) (v : List ℕ) (r t : ℕ) where
       unfolding look-at
       no-minute h = simp (eq-eqb (length v) (p .rules * p .sizes .minutes) s, lt-ltb r (p .rules) l, le-ltb t (p .sizes .minutes) h)
 
-      pub there : t < p .sizes .minutes → Shows (verdictOf (getD v (r * p .sizes .minutes + t) 0)) ≡ look-at p v r t
+      pub there : t < p .sizes .minutes → Shows (verdict-of (getD v (r * p .sizes .minutes + t) 0)) ≡ look-at p v r t
       unfolding look-at
       there h = simp (eq-eqb (length v) (p .rules * p .sizes .minutes) s, lt-ltb r (p .rules) l, lt-ltb t (p .sizes .minutes) h)
 
@@ -59,15 +59,15 @@ module _ (s v : List ℕ) (r t : ℕ) where
   show-then C.Accepted c x = refl
   show-then (C.Refused q) c x = refl
 
-  looks : (a : Checked) → answerOf s ≡ a → elim a [ C.Accepted ↦ look-at (policyOf s) v r t | C.Refused q ↦ Refused q ] ≡ lookupOf s v r t
-  unfolding lookupOf look-at answerOf
+  looks : (a : Checked) → answer-of s ≡ a → elim a [ C.Accepted ↦ look-at (policy-of s) v r t | C.Refused q ↦ Refused q ] ≡ lookup-of s v r t
+  unfolding lookup-of look-at answer-of
   looks a e =
-      sym (ap (λ (c : Checked). show-unless c (verdictOf (code-at (policyOf s) v r t))) (in-order (policy-checks s) (sheet-checks (policyOf s) v r t))
-      ∙ show-then (first-failed (policy-checks s)) (first-failed (sheet-checks (policyOf s) v r t)) (verdictOf (code-at (policyOf s) v r t))
-      ∙ ap (λ (c : Checked). elim c [ C.Accepted ↦ show-unless (first-failed (sheet-checks (policyOf s) v r t)) (verdictOf (code-at (policyOf s) v r t)) | C.Refused q ↦ Refused q ]) e)
+      sym (ap (λ (c : Checked). show-unless c (verdict-of (code-at (policy-of s) v r t))) (in-order (policy-checks s) (sheet-checks (policy-of s) v r t))
+      ∙ show-then (first-failed (policy-checks s)) (first-failed (sheet-checks (policy-of s) v r t)) (verdict-of (code-at (policy-of s) v r t))
+      ∙ ap (λ (c : Checked). elim c [ C.Accepted ↦ show-unless (first-failed (sheet-checks (policy-of s) v r t)) (verdict-of (code-at (policy-of s) v r t)) | C.Refused q ↦ Refused q ]) e)
 
-  pub refused-look : (q : Refusal) → answerOf s ≡ C.Refused q → Refused q ≡ lookupOf s v r t
+  pub refused-look : (q : Refusal) → answer-of s ≡ C.Refused q → Refused q ≡ lookup-of s v r t
   refused-look q e = looks (C.Refused q) e
 
-  pub read-look : (p : Policy) → Read s p → look-at p v r t ≡ lookupOf s v r t
+  pub read-look : (p : Policy) → Read s p → look-at p v r t ≡ lookup-of s v r t
   read-look p z = ap (λ (q : Policy). look-at q v r t) (z .same) ∙ looks C.Accepted (z .card)

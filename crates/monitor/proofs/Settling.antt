@@ -23,7 +23,7 @@ use Rattle.valuation.specs.Sheets.{valuation-of, verdicts-of, standing}
 use Rattle.monitor.specs.declared.Answer.{Answer}
 use Rattle.monitor.specs.declared.Answer.the-variants.{Received}
 use Rattle.monitor.specs.State.{State, Outcome, lent, outcome, Sized, opened, rewritten, settled}
-use Rattle.monitor.specs.Laws.{fresh-sound, sheet-lengths, long-of, blank-sheet, lengths}
+use Rattle.monitor.specs.Laws.{fresh-sound, sheet-lengths, knowledge-sized, blank-sheet, lengths}
 
 pub limits : (p : Policy) → Proper p → Limits (p .sizes)
 limits p z = record { propositions-most = z .propositions .high; minutes-most = z .minutes .high }
@@ -116,7 +116,7 @@ module _ (p : Policy) (n f v d : List ℕ) (z : Sized p (lent n f v d)) (m : Mes
   next-sound = sound-law (p .sizes) next .0 (both (free (p .sizes) (held n f) m) (sound (p .sizes) next) ok .1)
 
   next-long : Long (p .sizes) next
-  next-long = store-long (p .sizes) (held n f) m (long-of p (lent n f v d) z) fits
+  next-long = store-long (p .sizes) (held n f) m (knowledge-sized p (lent n f v d) z) fits
 
   module _ (n′ f′ : List ℕ) (a : n′ ≡ next .numbers) (b : f′ ≡ next .facts) where
     pub next-needs : Sized p (lent n′ f′ v d) × Sound (p .sizes) (held n′ f′)

@@ -1,7 +1,7 @@
 -- What was demanded, as types. Read this file first; each statement stands below the sentence that it formalises. `demand-1`, `demand-2`
 -- and `demand-3` of the crate demands have these types.
 --
--- s are the bytes of a card, any bytes; `policyOf s` is what they say where they are accepted. x is a state: the four lent buffers, of any
+-- s are the bytes of a card, any bytes; `policy-of s` is what they say where they are accepted. x is a state: the four lent buffers, of any
 -- length and content. b are the bytes of a slip, any bytes.
 use Prim.Native.Nat.{ℕ, _+_, _*_, _≤_, _<_}
 use mathlib.Core.Path.{_≡_}
@@ -9,7 +9,7 @@ use mathlib.Core.Bool.{Bool, true, false, cond}
 use mathlib.Core.Logic.{_⊎_, _↔_, _≢_}
 use mathlib.Core.List.{List, _∷_, _++_}
 use lib.ListN.{getD, length}
-use Rattle.kleene.specs.Truth.{true3, false3, codeOf}
+use Rattle.kleene.specs.Truth.{true3, false3, code-of}
 use Rattle.mtl.specs.Textbook.{Holds}
 use Rattle.refusal.specs.declared.Refusal.{Refusal}
 use Rattle.refusal.specs.declared.Refusal.the-variants.{Conflict}
@@ -19,11 +19,11 @@ use Rattle.refusal.specs.Table.{Table}
 use Rattle.refusal.specs.Checks.{Refused-with}
 use Rattle.policy.specs.declared.Sizes.{Sizes}
 use Rattle.policy.specs.declared.Policy.{Policy}
-use Rattle.policy.specs.Format.{policyOf, countOf, rulesUpTo}
-use Rattle.policy.specs.Proper.{formulaAt, rulesOf, Between, Cut, Misheaded, Misformed, Whole}
-use Rattle.message.specs.Format.{lengthOf}
+use Rattle.policy.specs.Format.{policy-of, count-of, rules-up-to}
+use Rattle.policy.specs.Proper.{formula-at, rules-of, Between, Cut, Misheaded, Misformed, Whole}
+use Rattle.message.specs.Format.{length-of}
 use Rattle.message.specs.Encoded.{Is-message}
-use Rattle.message.specs.Fixes.{Message, Fixes-number, Fixes-fact, Well-formed, meaningOf}
+use Rattle.message.specs.Fixes.{Message, Fixes-number, Fixes-fact, Well-formed, meaning-of}
 use Rattle.message.specs.Proper.{Cut as Cut-message}
 use Rattle.knowledge.specs.Trace.{Trace, Admits, Admits-all, time-point}
 use Rattle.knowledge.specs.Knowledge.{Knowledge, none, noted, valued, fact, number, Sound, Agrees, Known-point}
@@ -33,14 +33,14 @@ use Rattle.monitor.specs.declared.Answer.the-variants.{Done, Received, R
 use Rattle.monitor.specs.declared.Verdict.the-variants.{Unknown, Satisfied, Violated}
 use Rattle.monitor.specs.declared.Look.{Look}
 use Rattle.monitor.specs.declared.Look.the-variants as L
-use Rattle.monitor.specs.Lookup.{lookupOf}
+use Rattle.monitor.specs.Lookup.{lookup-of}
 use Rattle.monitor.specs.State.{State, Outcome, Sized, open-state, receive, Call, Receive, after, Taken, accepted, Offered}
 
 -- ---- words
 
 -- the sizes of the card
-abbrev pub sizesOf : List ℕ → Sizes
-sizesOf s = policyOf s .sizes
+abbrev pub sizes-of : List ℕ → Sizes
+sizes-of s = policy-of s .sizes
 
 -- "The code at rule times M + minute of the verdict sheet"
 abbrev pub shown : Policy → State → ℕ → ℕ → ℕ
@@ -48,7 +48,7 @@ shown p x r t = getD (x .verdicts) (r * p .sizes .minutes + t) 0
 
 -- the line that is rule r
 abbrev pub rule-line : Policy → ℕ → ℕ
-rule-line p r = getD (rulesOf p) r 0
+rule-line p r = getD (rules-of p) r 0
 
 -- some shift fits the record and the slip
 abbrev pub Some-trace : Sizes → Knowledge → Message → Type 0
@@ -57,14 +57,14 @@ Some-trace z k m = (w : Trace z) × Agrees z w k × Admits z w m
 -- "The plain two-valued verdict of a rule at a busy minute of that shift is kept where its line so reads true, broken where it reads false; a
 -- quiet minute has none." The reading is the textbook one: a proposition
 pub data Plain (p : Policy) (w : Trace (p .sizes)) (r t : ℕ) : ℕ → Type 0 where
-  kept : time-point (p .sizes) w t ≡ true → Holds (time-point (p .sizes) w) (w .value) (formulaAt p) (rule-line p r) t → Plain p w r t 1
-  broken : time-point (p .sizes) w t ≡ true → (Holds (time-point (p .sizes) w) (w .value) (formulaAt p) (rule-line p r) t → ⊥) → Plain p w r t 2
+  kept : time-point (p .sizes) w t ≡ true → Holds (time-point (p .sizes) w) (w .value) (formula-at p) (rule-line p r) t → Plain p w r t 1
+  broken : time-point (p .sizes) w t ≡ true → (Holds (time-point (p .sizes) w) (w .value) (formula-at p) (rule-line p r) t → ⊥) → Plain p w r t 2
 
 -- The sheets are the reading over the state's knowledge: "the sheet shows kept or broken at a minute exactly when that minute is known busy
 -- and the three-valued MTL reading of the rule over what is known is true or false; otherwise blank"
 pub record Sheets (p : Policy) (x : State) : Type 0 where
   pub valuation : (l t : ℕ) → l < p .count → t < p .sizes .minutes
-      → getD (x .valuation) (l * p .sizes .minutes + t) 0 ≡ codeOf (value p (x .known) l t)
+      → getD (x .valuation) (l * p .sizes .minutes + t) 0 ≡ code-of (value p (x .known) l t)
   pub kept : (r t : ℕ) → r < p .rules → t < p .sizes .minutes
       → (shown p x r t ≡ 1) ↔ (Known-point (p .sizes) (x .known) t × (value p (x .known) (rule-line p r) t ≡ true3))
   pub broken : (r t : ℕ) → r < p .rules → t < p .sizes .minutes
@@ -104,61 +104,61 @@ pub record Policy-causes (s : List ℕ) (a : Checked) : Type 0 where
   pub one : (at : ℕ) → Refused-with a 1 at ↔ Cut s at
   pub two : (at : ℕ) → Refused-with a 2 at ↔ Misheaded s at
   pub three : (at : ℕ) → Refused-with a 3 at ↔ Misformed s at
-  pub four : (at : ℕ) → Refused-with a 4 at ↔ ((at ≡ 0) × Whole s × (Between 1 8 (rulesUpTo s (countOf s)) → ⊥))
+  pub four : (at : ℕ) → Refused-with a 4 at ↔ ((at ≡ 0) × Whole s × (Between 1 8 (rules-up-to s (count-of s)) → ⊥))
 
 -- the card is accepted: checks 1 to 4 let it pass
 abbrev pub Policy-passed : List ℕ → Type 0
-Policy-passed s = Whole s × Between 1 8 (rulesUpTo s (countOf s))
+Policy-passed s = Whole s × Between 1 8 (rules-up-to s (count-of s))
 
 -- an opening, whose outcome is o: 1 to 5. "Opening stops after 5"; "an opening answers done, or its refusal"
 pub record Opening-causes (s : List ℕ) (x : State) (o : Outcome) : Type 0 where
   pub policy : Policy-causes s (reply (o .answer))
-  pub five : (at : ℕ) → Refused-with (reply (o .answer)) 5 at ↔ ((at ≡ 0) × Policy-passed s × (Sized (policyOf s) x → ⊥))
+  pub five : (at : ℕ) → Refused-with (reply (o .answer)) 5 at ↔ ((at ≡ 0) × Policy-passed s × (Sized (policy-of s) x → ⊥))
   pub no-other : (n at : ℕ) → Refused-with (reply (o .answer)) n at → (1 ≤ n) × (n ≤ 5)
-  pub done : (o .answer ≡ Done) ↔ (Policy-passed s × Sized (policyOf s) x)
+  pub done : (o .answer ≡ Done) ↔ (Policy-passed s × Sized (policy-of s) x)
   pub unwritten : (r : Refusal) → o .answer ≡ Refused r → o .state ≡ x
 
 -- the checks 1 to 6 let the card and the record pass
 pub record Passed (s : List ℕ) (x : State) : Type 0 where
   pub policy : Policy-passed s
-  pub sized : Sized (policyOf s) x
-  pub sound : Sound (sizesOf s) (x .known)
+  pub sized : Sized (policy-of s) x
+  pub sound : Sound (sizes-of s) (x .known)
 
 -- a take, whose outcome is o: 1 to 9
 pub record Take-causes (s : List ℕ) (x : State) (b : List ℕ) (o : Outcome) : Type 0 where
   pub policy : Policy-causes s (reply (o .answer))
-  pub five : (at : ℕ) → Refused-with (reply (o .answer)) 5 at ↔ ((at ≡ 0) × Policy-passed s × (Sized (policyOf s) x → ⊥))
+  pub five : (at : ℕ) → Refused-with (reply (o .answer)) 5 at ↔ ((at ≡ 0) × Policy-passed s × (Sized (policy-of s) x → ⊥))
   pub six : (at : ℕ) → Refused-with (reply (o .answer)) 6 at
-      ↔ ((at ≡ 0) × Policy-passed s × Sized (policyOf s) x × (Sound (sizesOf s) (x .known) → ⊥))
+      ↔ ((at ≡ 0) × Policy-passed s × Sized (policy-of s) x × (Sound (sizes-of s) (x .known) → ⊥))
   pub seven : (at : ℕ) → Refused-with (reply (o .answer)) 7 at ↔ (Passed s x × Cut-message b at)
   pub eight : (at : ℕ) → Refused-with (reply (o .answer)) 8 at
-      ↔ ((at ≡ 0) × Passed s x × (length b ≡ lengthOf b) × (Is-message (sizesOf s) b → ⊥))
+      ↔ ((at ≡ 0) × Passed s x × (length b ≡ length-of b) × (Is-message (sizes-of s) b → ⊥))
   pub nine : (at : ℕ) → Refused-with (reply (o .answer)) 9 at
-      ↔ ((at ≡ 0) × Passed s x × Well-formed (sizesOf s) b × (Some-trace (sizesOf s) (x .known) (meaningOf b) → ⊥))
+      ↔ ((at ≡ 0) × Passed s x × Well-formed (sizes-of s) b × (Some-trace (sizes-of s) (x .known) (meaning-of b) → ⊥))
   pub no-other : (n at : ℕ) → Refused-with (reply (o .answer)) n at → (1 ≤ n) × (n ≤ 9)
-  pub taken : Taken (o .answer) ↔ (Passed s x × Well-formed (sizesOf s) b × Some-trace (sizesOf s) (x .known) (meaningOf b))
+  pub taken : Taken (o .answer) ↔ (Passed s x × Well-formed (sizes-of s) b × Some-trace (sizes-of s) (x .known) (meaning-of b))
   pub unwritten : (r : Refusal) → o .answer ≡ Refused r → o .state ≡ x
 
 -- what a look is lent and asked is of the card
 pub record On-sheet (s verdicts : List ℕ) (rule minute : ℕ) : Type 0 where
   pub policy : Policy-passed s
-  pub sized : length verdicts ≡ policyOf s .rules * sizesOf s .minutes
-  pub rule-in : rule < policyOf s .rules
-  pub minute-in : minute < sizesOf s .minutes
+  pub sized : length verdicts ≡ policy-of s .rules * sizes-of s .minutes
+  pub rule-in : rule < policy-of s .rules
+  pub minute-in : minute < sizes-of s .minutes
 
 -- "the code at rule times M + minute"
 abbrev pub code : List ℕ → List ℕ → ℕ → ℕ → ℕ
-code s verdicts rule minute = getD verdicts (rule * sizesOf s .minutes + minute) 0
+code s verdicts rule minute = getD verdicts (rule * sizes-of s .minutes + minute) 0
 
 -- a look, whose answer is a: 1 to 5 (the verdict sheet only) and then 10. "A look gives the code at rule times M + minute of the lent verdict sheet,
 -- other codes than 1 and 2 read as blank"
 pub record Look-causes (s verdicts : List ℕ) (rule minute : ℕ) (a : Look) : Type 0 where
   pub policy : Policy-causes s (look-reply a)
   pub five : (at : ℕ) → Refused-with (look-reply a) 5 at
-      ↔ ((at ≡ 0) × Policy-passed s × (length verdicts ≡ policyOf s .rules * sizesOf s .minutes → ⊥))
+      ↔ ((at ≡ 0) × Policy-passed s × (length verdicts ≡ policy-of s .rules * sizes-of s .minutes → ⊥))
   pub ten : (at : ℕ) → Refused-with (look-reply a) 10 at
-      ↔ ((at ≡ 0) × Policy-passed s × (length verdicts ≡ policyOf s .rules * sizesOf s .minutes)
-      × ((rule < policyOf s .rules) × (minute < sizesOf s .minutes) → ⊥))
+      ↔ ((at ≡ 0) × Policy-passed s × (length verdicts ≡ policy-of s .rules * sizes-of s .minutes)
+      × ((rule < policy-of s .rules) × (minute < sizes-of s .minutes) → ⊥))
   pub no-other : (n at : ℕ) → Refused-with (look-reply a) n at → ((1 ≤ n) × (n ≤ 5)) ⊎ (n ≡ 10)
   pub kept : (a ≡ L.Shows Satisfied) ↔ (On-sheet s verdicts rule minute × (code s verdicts rule minute ≡ 1))
   pub broken : (a ≡ L.Shows Violated) ↔ (On-sheet s verdicts rule minute × (code s verdicts rule minute ≡ 2))
@@ -169,7 +169,7 @@ pub record Demand-1 : Type 0 where
   pub table : Table
   pub opening : (s : List ℕ) (x : State) → Opening-causes s x (open-state s x)
   pub take : (s : List ℕ) (x : State) (b : List ℕ) → Take-causes s x b (receive s x b)
-  pub look : (s verdicts : List ℕ) (rule minute : ℕ) → Look-causes s verdicts rule minute (lookupOf s verdicts rule minute)
+  pub look : (s verdicts : List ℕ) (rule minute : ℕ) → Look-causes s verdicts rule minute (lookup-of s verdicts rule minute)
 
 -- ---- the opening
 
@@ -182,7 +182,7 @@ pub record Opened (p : Policy) (x : State) : Type 0 where
   pub no-fact : (i : ℕ) → getD (x .known .facts) i 0 ≡ 0
   pub blank : (r t : ℕ) → shown p x r t ≡ 0
   pub valuation : (l t : ℕ) → l < p .count → t < p .sizes .minutes
-      → getD (x .valuation) (l * p .sizes .minutes + t) 0 ≡ codeOf (value p (x .known) l t)
+      → getD (x .valuation) (l * p .sizes .minutes + t) 0 ≡ code-of (value p (x .known) l t)
 
 -- ---- demand 2
 
@@ -194,16 +194,16 @@ pub record Gains (z : Sizes) (k k′ : Knowledge) (m : Message) : Type 0 where
   pub fact-kept : (i t : ℕ) → i < 32 → ((b : Bool) → Fixes-fact (m .event) i t b → ⊥) → (noted k′ i t ≡ noted k i t) × (valued k′ i t ≡ valued k i t)
 
 pub record Demand-2 : Type 0 where
-  pub opening : (s : List ℕ) (x : State) → open-state s x .answer ≡ Done → Opened (policyOf s) (open-state s x .state)
+  pub opening : (s : List ℕ) (x : State) → open-state s x .answer ≡ Done → Opened (policy-of s) (open-state s x .state)
   -- "After every accepted slip the sheet shows .." (Sheets), over the record with what the slip fixes
-  pub sheets : (s : List ℕ) (x : State) (b : List ℕ) → Taken (receive s x b .answer) → Sheets (policyOf s) (receive s x b .state)
-  pub gains : (s : List ℕ) (x : State) (b : List ℕ) → Taken (receive s x b .answer) → Gains (sizesOf s) (x .known) (receive s x b .state .known) (meaningOf b)
+  pub sheets : (s : List ℕ) (x : State) (b : List ℕ) → Taken (receive s x b .answer) → Sheets (policy-of s) (receive s x b .state)
+  pub gains : (s : List ℕ) (x : State) (b : List ℕ) → Taken (receive s x b .answer) → Gains (sizes-of s) (x .known) (receive s x b .state .known) (meaning-of b)
   -- "a take also gives how many verdicts stand": the total "equals the non-blank cells"
   pub total : (s : List ℕ) (x : State) (b : List ℕ) → Taken (receive s x b .answer)
       → receive s x b .answer ≡ Received (standing (receive s x b .state .verdicts))
   -- "A well-formed slip that no earlier check turns away is refused as a clash exactly when no shift fits the record and the slip"
-  pub conflict : (s : List ℕ) (x : State) (b : List ℕ) → Passed s x → Well-formed (sizesOf s) b
-      → (receive s x b .answer ≡ Refused Conflict) ↔ (Some-trace (sizesOf s) (x .known) (meaningOf b) → ⊥)
+  pub conflict : (s : List ℕ) (x : State) (b : List ℕ) → Passed s x → Well-formed (sizes-of s) b
+      → (receive s x b .answer ≡ Refused Conflict) ↔ (Some-trace (sizes-of s) (x .known) (meaning-of b) → ⊥)
   -- and some shift fits every sound record
   pub fits : (z : Sizes) (k : Knowledge) → Sound z k → (w : Trace z) × Agrees z w k
 
@@ -211,12 +211,12 @@ pub record Demand-2 : Type 0 where
 
 -- the messages that the well-formed slips of a list say
 abbrev pub Sends : Sizes → List Call → Message → Type 0
-Sends z cs m = (b : List ℕ) × Offered b cs × Well-formed z b × (meaningOf b ≡ m)
+Sends z cs m = (b : List ℕ) × Offered b cs × Well-formed z b × (meaning-of b ≡ m)
 
 -- in this list a slip is accepted exactly when it is well-formed: "accept all of these and no others"
 abbrev pub All-taken : List ℕ → State → List Call → Type 0
 All-taken s x cs = (us : List Call) (b : List ℕ) (vs : List Call) → cs ≡ us ++ (Receive b ∷ vs)
-    → Taken (receive s (after s x us) b .answer) ↔ Well-formed (sizesOf s) b
+    → Taken (receive s (after s x us) b .answer) ↔ Well-formed (sizes-of s) b
 
 -- what two lists with the same well-formed slips share
 pub record Same (s : List ℕ) (x y : State) (xs ys : List Call) : Type 0 where
@@ -225,9 +225,9 @@ pub record Same (s : List ℕ) (x y : State) (xs ys : List Call) : Type 0 where
   -- "the same record, work sheet and verdict sheet", in every cell
   pub state : after s x xs ≡ after s y ys
   -- "those that 01 gives for what the opening and these slips make known"
-  pub sized : Sized (policyOf s) (after s x xs)
-  pub exact : Exact (sizesOf s) (after s x xs .known) (Sends (sizesOf s) xs)
-  pub sheets : Sheets (policyOf s) (after s x xs)
+  pub sized : Sized (policy-of s) (after s x xs)
+  pub exact : Exact (sizes-of s) (after s x xs .known) (Sends (sizes-of s) xs)
+  pub sheets : Sheets (policy-of s) (after s x xs)
 
 -- "For every list of takes, refused ones included, from a fresh record under one card": right after an opening that answered done, whatever
 -- the buffers x held before
@@ -235,17 +235,17 @@ pub record Demand-3 : Type 0 where
   -- "a slip is accepted exactly when it is well-formed and some one shift could have sent it and every slip accepted before it"
   pub accept : (s : List ℕ) (x : State) → open-state s x .answer ≡ Done → (cs : List Call) (b : List ℕ)
       → Taken (receive s (after s x cs) b .answer)
-      ↔ (Well-formed (sizesOf s) b × ((w : Trace (sizesOf s)) × Admits-all (sizesOf s) w (accepted s x cs) × Admits (sizesOf s) w (meaningOf b)))
+      ↔ (Well-formed (sizes-of s) b × ((w : Trace (sizes-of s)) × Admits-all (sizes-of s) w (accepted s x cs) × Admits (sizes-of s) w (meaning-of b)))
   -- "every kept or broken after any beginning of the list stands at its end"
-  pub stand : (s : List ℕ) (x : State) → open-state s x .answer ≡ Done → (cs ds : List Call) (r t : ℕ) → r < policyOf s .rules → t < sizesOf s .minutes
-      → shown (policyOf s) (after s x cs) r t ≢ 0 → shown (policyOf s) (after s x (cs ++ ds)) r t ≡ shown (policyOf s) (after s x cs) r t
+  pub stand : (s : List ℕ) (x : State) → open-state s x .answer ≡ Done → (cs ds : List Call) (r t : ℕ) → r < policy-of s .rules → t < sizes-of s .minutes
+      → shown (policy-of s) (after s x cs) r t ≢ 0 → shown (policy-of s) (after s x (cs ++ ds)) r t ≡ shown (policy-of s) (after s x cs) r t
   -- "and is the plain two-valued verdict in every shift that could have sent the slips accepted in that beginning"
-  pub truth : (s : List ℕ) (x : State) → open-state s x .answer ≡ Done → (cs : List Call) (r t : ℕ) → r < policyOf s .rules → t < sizesOf s .minutes
-      → shown (policyOf s) (after s x cs) r t ≢ 0 → (w : Trace (sizesOf s)) → Admits-all (sizesOf s) w (accepted s x cs)
-      → Plain (policyOf s) w r t (shown (policyOf s) (after s x cs) r t)
+  pub truth : (s : List ℕ) (x : State) → open-state s x .answer ≡ Done → (cs : List Call) (r t : ℕ) → r < policy-of s .rules → t < sizes-of s .minutes
+      → shown (policy-of s) (after s x cs) r t ≢ 0 → (w : Trace (sizes-of s)) → Admits-all (sizes-of s) w (accepted s x cs)
+      → Plain (policy-of s) w r t (shown (policy-of s) (after s x cs) r t)
   -- "Two such lists with the same well-formed slips (any order, any repeats, anything ill-formed between), all of which some one shift could
   -- have sent, both accept all of these and no others and leave the same record, work sheet and verdict sheet"
   pub same : (s : List ℕ) (x y : State) → open-state s x .answer ≡ Done → open-state s y .answer ≡ Done → (xs ys : List Call)
-      → ((b : List ℕ) → Well-formed (sizesOf s) b → Offered b xs ↔ Offered b ys)
-      → (w : Trace (sizesOf s)) → ((b : List ℕ) → Offered b xs → Well-formed (sizesOf s) b → Admits (sizesOf s) w (meaningOf b))
+      → ((b : List ℕ) → Well-formed (sizes-of s) b → Offered b xs ↔ Offered b ys)
+      → (w : Trace (sizes-of s)) → ((b : List ℕ) → Offered b xs → Well-formed (sizes-of s) b → Admits (sizes-of s) w (meaning-of b))
       → Same s x y xs ys

@@ -10,12 +10,12 @@ use lib.ListN.{getD, length, replicate, length-replicate, getD-replicate, List·
 use lib.Seq.{ext-getD}
 use lib.Dec.{eqb}
 use borrow.Author.Tests.{eqb-true, eq-eqb, ne-eqb}
-use Rattle.kleene.specs.Truth.{codeOf}
+use Rattle.kleene.specs.Truth.{code-of}
 use Rattle.bits.specs.Bits.{bit, bit-of-zero}
 use Rattle.mtl.specs.Folds.{both, pair}
 use Rattle.rows.specs.Grid.{table, table-length, table-at, place-of, in-grid, place-in}
 use Rattle.policy.specs.declared.Policy.{Policy}
-use Rattle.policy.specs.Proper.{rulesOf}
+use Rattle.policy.specs.Proper.{rules-of}
 use Rattle.knowledge.specs.Knowledge.{Knowledge, none, noted, valued, number, Sound, is-point, fresh, Sized as Long}
 use Rattle.knowledge.specs.Laws.{point-law}
 use Rattle.valuation.specs.Sheets.{value, verdict, valuation-of, verdicts-of}
@@ -36,8 +36,8 @@ sized-law p x = (there, back)
     back z = pair (eq-eqb _ _ (z .numbers)) (pair (eq-eqb _ _ (z .facts)) (pair (eq-eqb _ _ (z .valuation)) (eq-eqb _ _ (z .verdicts))))
 
 module _ (c : Policy) where
-  pub long-of : (x : State) → Sized c x → Long (c .sizes) (x .known)
-  long-of x z = record { numbers = z .numbers; facts = z .facts }
+  pub knowledge-sized : (x : State) → Sized c x → Long (c .sizes) (x .known)
+  knowledge-sized x z = record { numbers = z .numbers; facts = z .facts }
 
   pub sheet-lengths : (k : Knowledge) → (length (valuation-of c k) ≡ c .count * c .sizes .minutes) × (length (verdicts-of c k) ≡ c .rules * c .sizes .minutes)
   unfolding valuation-of verdicts-of
@@ -95,7 +95,7 @@ module _ (c : Policy) where
           absurd (omega (arith, fresh-known (k .component) (suc t) (number (c .sizes) (fresh (c .sizes)) (k .component) (suc t)) (k .is-component) h (k .rise .after) refl))
 
   fresh-verdict : (r t : ℕ) → t < c .sizes .minutes → verdict c (fresh (c .sizes)) r t ≡ 0
-  fresh-verdict r t h = ap (λ (x : Bool). cond x (codeOf (value c (fresh (c .sizes)) (getD (rulesOf c) r 0) t)) 0) (fresh-open t h)
+  fresh-verdict r t h = ap (λ (x : Bool). cond x (code-of (value c (fresh (c .sizes)) (getD (rules-of c) r 0) t)) 0) (fresh-open t h)
 
   pub blank-sheet : replicate (c .rules * c .sizes .minutes) 0 ≡ verdicts-of c (fresh (c .sizes))
   unfolding verdicts-of

@@ -10,7 +10,7 @@ use Rattle.refusal.specs.declared.Answer.{Answer as Checked}
 use Rattle.refusal.specs.declared.Answer.the-variants as C
 use Rattle.policy.specs.declared.Policy.{Policy}
 use Rattle.refusal.specs.Checks.{Check, check, first-failed}
-use Rattle.policy.specs.Format.{policy-checks, policyOf}
+use Rattle.policy.specs.Format.{policy-checks, policy-of}
 use Rattle.monitor.specs.declared.Verdict.{Verdict}
 use Rattle.monitor.specs.declared.Verdict.the-variants.{Unknown, Satisfied, Violated}
 use Rattle.monitor.specs.declared.Look.{Look}
@@ -23,11 +23,11 @@ verdict-code Satisfied = 1
 verdict-code Violated = 2
 
 -- other codes than 1 and 2 read as blank
-abbrev pub verdictOf : ℕ → Verdict
-verdictOf zero = Unknown
-verdictOf (suc zero) = Satisfied
-verdictOf (suc (suc zero)) = Violated
-verdictOf (suc (suc (suc n))) = Unknown
+abbrev pub verdict-of : ℕ → Verdict
+verdict-of zero = Unknown
+verdict-of (suc zero) = Satisfied
+verdict-of (suc (suc zero)) = Violated
+verdict-of (suc (suc (suc n))) = Unknown
 
 -- what a look shows, unless one of its checks refuses it
 abbrev pub show-unless : Checked → Verdict → Look
@@ -46,11 +46,11 @@ module _ (p : Policy) (verdicts : List ℕ) (rule minute : ℕ) where
   code-at = getD verdicts (rule * p .sizes .minutes + minute) 0
 
   unfoldable pub look-at : Look
-  look-at = show-unless (first-failed sheet-checks) (verdictOf code-at)
+  look-at = show-unless (first-failed sheet-checks) (verdict-of code-at)
 
 -- 1 to 4 first
 abbrev pub look-checks : List ℕ → List ℕ → ℕ → ℕ → List Check
-look-checks s verdicts rule minute = policy-checks s ++ sheet-checks (policyOf s) verdicts rule minute
+look-checks s verdicts rule minute = policy-checks s ++ sheet-checks (policy-of s) verdicts rule minute
 
-unfoldable pub lookupOf : List ℕ → List ℕ → ℕ → ℕ → Look
-lookupOf s verdicts rule minute = show-unless (first-failed (look-checks s verdicts rule minute)) (verdictOf (code-at (policyOf s) verdicts rule minute))
+unfoldable pub lookup-of : List ℕ → List ℕ → ℕ → ℕ → Look
+lookup-of s verdicts rule minute = show-unless (first-failed (look-checks s verdicts rule minute)) (verdict-of (code-at (policy-of s) verdicts rule minute))

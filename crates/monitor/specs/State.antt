@@ -11,9 +11,9 @@ use Rattle.policy.specs.declared.Policy.{Policy}
 use Rattle.refusal.specs.declared.Answer.{Answer as Checked}
 use Rattle.refusal.specs.declared.Answer.the-variants as C
 use Rattle.refusal.specs.Checks.{Check, check, first-failed}
-use Rattle.policy.specs.Format.{policy-checks, policyOf}
+use Rattle.policy.specs.Format.{policy-checks, policy-of}
 use Rattle.message.specs.Format.{message-checks}
-use Rattle.message.specs.Fixes.{Message, meaningOf}
+use Rattle.message.specs.Fixes.{Message, meaning-of}
 use Rattle.knowledge.specs.Knowledge.{Knowledge, sound, fresh, stored, admits}
 use Rattle.valuation.specs.Sheets.{valuation-of, verdicts-of, standing}
 use Rattle.monitor.specs.declared.Answer.{Answer}
@@ -87,36 +87,36 @@ module _ (p : Policy) where
 
   -- 7 and 8, then 9: "no shift fits record and slip"
   abbrev pub slip-checks : State → List ℕ → List Check
-  slip-checks x b = message-checks (p .sizes) b ++ (check (admits (p .sizes) (x .known) (meaningOf b)) Conflict ∷ [])
+  slip-checks x b = message-checks (p .sizes) b ++ (check (admits (p .sizes) (x .known) (meaning-of b)) Conflict ∷ [])
 
   abbrev pub take-message : State → List ℕ → Outcome
-  take-message x b = unless (first-failed (slip-checks x b)) x (settled x (meaningOf b))
+  take-message x b = unless (first-failed (slip-checks x b)) x (settled x (meaning-of b))
 
 -- ---- the calls, each with its checks in 01's order; s are the bytes of the card
 
 -- 1 to 4, then 5, from the buffers' lengths: every call that is lent a state starts with these
 abbrev pub size-checks : List ℕ → ℕ → ℕ → ℕ → ℕ → List Check
-size-checks s numbers facts valuation verdicts = policy-checks s ++ (check (sizes-fit (policyOf s) numbers facts valuation verdicts) BufferSize ∷ [])
+size-checks s numbers facts valuation verdicts = policy-checks s ++ (check (sizes-fit (policy-of s) numbers facts valuation verdicts) BufferSize ∷ [])
 
 -- "A call that is lent a record checks 1 to 6 as a take does"
 abbrev pub record-checks : List ℕ → Knowledge → ℕ → ℕ → List Check
 record-checks s k valuation verdicts =
     size-checks s (length (k .numbers)) (length (k .facts)) valuation verdicts
-    ++ (check (sound (policyOf s .sizes) k) CorruptKnowledge ∷ [])
+    ++ (check (sound (policy-of s .sizes) k) CorruptKnowledge ∷ [])
 
 -- "Opening stops after 5"
 abbrev pub opening-checks : List ℕ → State → List Check
 opening-checks s x = size-checks s (length (x .known .numbers)) (length (x .known .facts)) (length (x .valuation)) (length (x .verdicts))
 
 unfoldable pub open-state : List ℕ → State → Outcome
-open-state s x = unless (first-failed (opening-checks s x)) x (record { answer = Done; state = opened (policyOf s) })
+open-state s x = unless (first-failed (opening-checks s x)) x (record { answer = Done; state = opened (policy-of s) })
 
 -- 1 to 4, "after it 5, 6, 7, 8, 9"
 abbrev pub take-checks : List ℕ → State → List ℕ → List Check
-take-checks s x b = record-checks s (x .known) (length (x .valuation)) (length (x .verdicts)) ++ slip-checks (policyOf s) x b
+take-checks s x b = record-checks s (x .known) (length (x .valuation)) (length (x .verdicts)) ++ slip-checks (policy-of s) x b
 
 unfoldable pub receive : List ℕ → State → List ℕ → Outcome
-receive s x b = unless (first-failed (take-checks s x b)) x (settled (policyOf s) x (meaningOf b))
+receive s x b = unless (first-failed (take-checks s x b)) x (settled (policy-of s) x (meaning-of b))
 
 -- ---- lists of calls
 
@@ -128,13 +128,13 @@ pub data Call : Type 0 where
 abbrev pub step : List ℕ → State → Call → Outcome
 step s x (Receive b) = receive s x b
 
-abbrev pub run : List ℕ → State → List Call → State
-run s x [] = x
-run s x (c ∷ cs) = run s (step s x c .state) cs
+abbrev pub run-calls : List ℕ → State → List Call → State
+run-calls s x [] = x
+run-calls s x (c ∷ cs) = run-calls s (step s x c .state) cs
 
 -- "A list of takes starts right after an opening": the state after it, where x are the buffers before the opening
 abbrev pub after : List ℕ → State → List Call → State
-after s x cs = run s (open-state s x .state) cs
+after s x cs = run-calls s (open-state s x .state) cs
 
 -- "The slip is accepted if its take isn't refused"
 abbrev pub Taken : Answer → Type 0
@@ -145,7 +145,7 @@ Taken (Refused r) = ⊥
 -- the message of a take with this answer, if it was accepted
 abbrev pub took : Answer → List ℕ → List Message
 took Done b = []
-took (Received n) b = meaningOf b ∷ []
+took (Received n) b = meaning-of b ∷ []
 took (Refused r) b = []
 
 -- the messages that a call accepts

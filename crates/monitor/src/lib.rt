@@ -15,7 +15,7 @@ ghost use Rattle.knowledge.specs.Knowledge.{none, Sound, admits};
 ghost use Rattle.knowledge.specs.Run.{held, sent};
 ghost use Rattle.monitor.specs.State.{lent, outcome, Sized, sizes-fit, opened, rewritten, settled, take-message, size-checks, record-checks, open-state, receive};
 ghost use Rattle.monitor.specs.Checked.{Checks};
-ghost use Rattle.monitor.specs.Lookup.{verdictOf, look-at, lookupOf};
+ghost use Rattle.monitor.specs.Lookup.{verdict-of, look-at, lookup-of};
 
 // What a call answers: an opening is done; a message is received, and so many verdicts stand; or the call is refused.
 pub enum Answer {
@@ -38,7 +38,7 @@ pub enum Look {
 
 // What a code of the verdict sheet says.
 fn verdict_of(code: u8) -> Verdict
-    ensures { λ r. ⌜ r ≡ verdictOf code ⌝ }
+    ensures { λ r. ⌜ r ≡ verdict-of code ⌝ }
 {
     if code == 1 {
         return Verdict::Satisfied;
@@ -71,7 +71,7 @@ fn verdict_at(policy: Policy, verdicts: &[u8], rule: usize, minute: usize) -> Lo
 
 // The verdict of a rule at a minute (01: a look).
 pub fn lookup(policy: &[u8], verdicts: &[u8], rule: usize, minute: usize) -> Look
-    ensures { λ r. ⌜ r ≡ lookupOf (now (policy .entry)) (now (verdicts .entry)) rule minute ⌝ }
+    ensures { λ r. ⌜ r ≡ lookup-of (now (policy .entry)) (now (verdicts .entry)) rule minute ⌝ }
 {
     let decoded = policy::decode(policy);
     let answer = decoded.answer;

@@ -1,6 +1,6 @@
 -- What the exported calls give, for C and Rust: a number, a detail beside it, and the lent buffers.
 use Prim.Native.Nat.{ℕ}
-use Rattle.refusal.specs.Numbers.{numberOf, placeOf}
+use Rattle.refusal.specs.Numbers.{refusal-number, refusal-place}
 use Rattle.monitor.specs.declared.Answer.{Answer}
 use Rattle.monitor.specs.declared.Answer.the-variants.{Done, Received, Refused}
 use Rattle.monitor.specs.declared.Look.{Look}
@@ -12,13 +12,13 @@ use Rattle.monitor.specs.Lookup.{verdict-code}
 abbrev pub number-of : Answer → ℕ
 number-of Done = 0
 number-of (Received n) = 0
-number-of (Refused r) = numberOf r
+number-of (Refused r) = refusal-number r
 
 -- how many verdicts stand after a take; of a refusal its place
 abbrev pub detail-of : Answer → ℕ
 detail-of Done = 0
 detail-of (Received n) = n
-detail-of (Refused r) = placeOf r
+detail-of (Refused r) = refusal-place r
 
 -- the number, the detail, and the state it leaves
 pub record Returned : Type 0 where
@@ -33,8 +33,8 @@ returned o = record { number = number-of (o .answer); detail = detail-of (o .ans
 -- the same for a look: the detail is the verdict's code (0 blank, 1 kept, 2 broken)
 abbrev pub look-number : Look → ℕ
 look-number (L.Shows v) = 0
-look-number (L.Refused r) = numberOf r
+look-number (L.Refused r) = refusal-number r
 
 abbrev pub look-detail : Look → ℕ
 look-detail (L.Shows v) = verdict-code v
-look-detail (L.Refused r) = placeOf r
+look-detail (L.Refused r) = refusal-place r

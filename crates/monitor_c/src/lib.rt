@@ -5,7 +5,7 @@ use monitor::Look;
 use monitor::Verdict;
 ghost use mathlib.Core.Path.{_≡_};
 ghost use Rattle.monitor.specs.State.{lent, open-state, receive};
-ghost use Rattle.monitor.specs.Lookup.{verdict-code, lookupOf};
+ghost use Rattle.monitor.specs.Lookup.{verdict-code, lookup-of};
 ghost use Rattle.monitor_c.specs.Returned.{number-of, detail-of, Returned, returned, look-number, look-detail};
 
 fn answer_number(answer: Answer) -> u8
@@ -100,8 +100,8 @@ pub extern "C" fn zankezurt_lookup(
     minute: usize,
     detail: &mut usize,
 ) -> u8
-    ensures { λ r. ⌜ r ≡ look-number (lookupOf (now (policy .entry)) (now (verdicts .entry)) rule minute) ⌝ }
-    ensures { λ _. ⌜ now (detail .exit) ≡ look-detail (lookupOf (now (policy .entry)) (now (verdicts .entry)) rule minute) ⌝ }
+    ensures { λ r. ⌜ r ≡ look-number (lookup-of (now (policy .entry)) (now (verdicts .entry)) rule minute) ⌝ }
+    ensures { λ _. ⌜ now (detail .exit) ≡ look-detail (lookup-of (now (policy .entry)) (now (verdicts .entry)) rule minute) ⌝ }
 {
     let look = monitor::lookup(policy, verdicts, rule, minute);
     *detail = look_detail(look);

@@ -54,17 +54,17 @@ knows-more v w n =
 -- ---- a decided value is the two-valued one
 
 -- x is unknown, or says what b says
-pub data Decides : Truth → Bool → Type 0 where
-  open3 : {b : Bool} → Decides unknown b
-  is-true : Decides true3 true
-  is-false : Decides false3 false
+pub data Settles : Truth → Bool → Type 0 where
+  open3 : {b : Bool} → Settles unknown b
+  is-true : Settles true3 true
+  is-false : Settles false3 false
 
-not-decides : {x : Truth} {b : Bool} → Decides x b → Decides (not3 x) (not b)
+not-decides : {x : Truth} {b : Bool} → Settles x b → Settles (not3 x) (not b)
 not-decides open3 = open3
 not-decides is-true = is-false
 not-decides is-false = is-true
 
-or-decides : {x : Truth} {b : Bool} {x′ : Truth} {b′ : Bool} → Decides x b → Decides x′ b′ → Decides (or3 x x′) (b || b′)
+or-decides : {x : Truth} {b : Bool} {x′ : Truth} {b′ : Bool} → Settles x b → Settles x′ b′ → Settles (or3 x x′) (b || b′)
 or-decides is-true open3 = is-true
 or-decides is-true is-true = is-true
 or-decides is-true is-false = is-true
@@ -76,30 +76,30 @@ or-decides open3 is-false = open3
 or-decides (open3 {b = true}) is-true = is-true
 or-decides (open3 {b = false}) is-true = is-true
 
-decide : Kept Decides three two
+decide : Kept Settles three two
 decide = record { top = is-true; bottom = is-false; neg = not-decides; join = or-decides }
 
 -- w shows every minute, and has the truth of what v knows
 pub record True-to (v : World Truth) (w : World Bool) : Type 0 where
-  pub time-point : (t : ℕ) → v .window t ≡ true → Decides (v .time-point t) (w .time-point t)
-  pub proposition : (p t : ℕ) → v .window t ≡ true → Decides (v .proposition p t) (w .proposition p t)
+  pub time-point : (t : ℕ) → v .window t ≡ true → Settles (v .time-point t) (w .time-point t)
+  pub proposition : (p t : ℕ) → v .window t ≡ true → Settles (v .proposition p t) (w .proposition p t)
   pub window : (t : ℕ) → w .window t ≡ true
   pub dark : v .outside ≡ unknown
 
-shown-decides : (v : World Truth) (w : World Bool) → True-to v w → (t : ℕ) {x : Truth} {y : Bool} → (v .window t ≡ true → Decides x y) → Decides (seen v t x) (seen w t y)
+shown-decides : (v : World Truth) (w : World Bool) → True-to v w → (t : ℕ) {x : Truth} {y : Bool} → (v .window t ≡ true → Settles x y) → Settles (seen v t x) (seen w t y)
 shown-decides v w n t {x} {y} h = rw (n .window t, seen) (go (v .window t) h)
   where
-    go : (p : Bool) → (p ≡ true → Decides x y) → Decides (elim p as (λ _. Truth) [ true ↦ x | false ↦ v .outside ]) y
+    go : (p : Bool) → (p ≡ true → Settles x y) → Settles (elim p as (λ _. Truth) [ true ↦ x | false ↦ v .outside ]) y
     go false h = rw (n .dark) open3
     go true h = h refl
 
-pub reading-decides : (v : World Truth) (w : World Bool) → True-to v w → (line : ℕ → Formula) (k t : ℕ) → Decides (reading three v line k t) (reading two w line k t)
+pub reading-decides : (v : World Truth) (w : World Bool) → True-to v w → (line : ℕ → Formula) (k t : ℕ) → Settles (reading three v line k t) (reading two w line k t)
 reading-decides v w n =
-    reading-kept Decides three two decide v w
+    reading-kept Settles three two decide v w
     (record { time-point = λ t. shown-decides v w n t (n .time-point t); proposition = λ p t. shown-decides v w n t (n .proposition p t); shown = λ t h. shown-decides v w n t (λ e. h) })
 
-pub decided-true : (b : Bool) → Decides true3 b → b ≡ true
+pub decided-true : (b : Bool) → Settles true3 b → b ≡ true
 decided-true b is-true = refl
 
-pub decided-false : (b : Bool) → Decides false3 b → b ≡ false
+pub decided-false : (b : Bool) → Settles false3 b → b ≡ false
 decided-false b is-false = refl

@@ -15,7 +15,7 @@ use Rattle.policy.specs.declared.Fields.{Fields}
 use Rattle.refusal.specs.declared.Answer.the-variants.{Accepted, Refused}
 use Rattle.refusal.specs.Checks.{Passed, none, pass, Refuses, here, there}
 use Rattle.refusal.specs.Laws.{refusal-law, passing-law}
-use Rattle.policy.specs.Format.{lineLength, fieldsAt, goodLine, subformulaOf, subformulaAt, offset, line-checks, lines-checks, noLine, subformulasOf, rulesUpTo}
+use Rattle.policy.specs.Format.{line-length, fields-at, good-line, subformula-of, subformula-at, offset, line-checks, lines-checks, no-line, subformulas-of, rules-up-to}
 use Rattle.policy.specs.Lines.{Scans}
 use Rattle.policy.specs.Table.{none-yet, one-more}
 use Rattle.policy.specs.Causes.{refused-line, passed-line}
@@ -25,40 +25,40 @@ pub record UpTo (s : List ℕ) (i : ℕ) (subformulas : List Subformula) (rules 
   pub accepted : Passed (lines-checks s i)
   pub place : at ≡ offset s i
   pub inside : at ≤ length s
-  pub counted : rules ≡ rulesUpTo s i
+  pub counted : rules ≡ rules-up-to s i
   pub few : rules ≤ i
-  pub table : subformulas ≡ subformulasOf s i
+  pub table : subformulas ≡ subformulas-of s i
 
-pub nothing-read : (s : List ℕ) → 5 ≤ length s → UpTo s 0 (replicate 64 noLine) 0 5
-unfolding lines-checks offset rulesUpTo
+pub nothing-read : (s : List ℕ) → 5 ≤ length s → UpTo s 0 (replicate 64 no-line) 0 5
+unfolding lines-checks offset rules-up-to
 nothing-read s h = record { accepted = none; place = refl; inside = h; counted = refl; few = omega arith; table = none-yet s }
 
 -- what the code knows of the line at the place
 module _ (s : List ℕ) (i : ℕ) (t : List Subformula) (rules at : ℕ) (u : UpTo s i t rules at) where
-  ends : {b : Bool} → leb (at + lineLength (getD s at 0)) (length s) ≡ b → leb (offset s (suc i)) (length s) ≡ b
+  ends : {b : Bool} → leb (at + line-length (getD s at 0)) (length s) ≡ b → leb (offset s (suc i)) (length s) ≡ b
   unfolding offset
   ends e = rw (← u .place) e
 
-  keeps : {b : Bool} → goodLine (getD s 0 0) i (fieldsAt s at) ≡ b → goodLine (getD s 0 0) i (fieldsAt s (offset s i)) ≡ b
+  keeps : {b : Bool} → good-line (getD s 0 0) i (fields-at s at) ≡ b → good-line (getD s 0 0) i (fields-at s (offset s i)) ≡ b
   keeps e = rw (← u .place) e
 
-  pub cut : (n : ℕ) → i < n → leb (at + lineLength (getD s at 0)) (length s) ≡ false → Refuses (lines-checks s n) (TruncatedPolicy (length s))
+  pub cut : (n : ℕ) → i < n → leb (at + line-length (getD s at 0)) (length s) ≡ false → Refuses (lines-checks s n) (TruncatedPolicy (length s))
   unfolding line-checks
   cut n h e = refused-line s i n _ h (u .accepted) (here (ends e))
 
   -- the code's fields of that line
-  module _ (f : Fields) (same : f ≡ fieldsAt s at) (whole : leb (at + lineLength (getD s at 0)) (length s) ≡ true) where
+  module _ (f : Fields) (same : f ≡ fields-at s at) (whole : leb (at + line-length (getD s at 0)) (length s) ≡ true) where
     its-map : f .map ≡ getD s at 0
-    unfolding fieldsAt
+    unfolding fields-at
     its-map = rw same
 
-    pub bad : (n : ℕ) → i < n → goodLine (getD s 0 0) i f ≡ false → Refuses (lines-checks s n) (BadSubformula at)
+    pub bad : (n : ℕ) → i < n → good-line (getD s 0 0) i f ≡ false → Refuses (lines-checks s n) (BadSubformula at)
     unfolding line-checks
     bad n h g = rw (u .place) (refused-line s i n _ h (u .accepted) (there (ends whole) (here (keeps (rw (← same) g)))))
 
-    pub one-line : {v : Subformula} {n m : ℕ} → i < 64 → goodLine (getD s 0 0) i f ≡ true → v ≡ subformulaOf f
-        → (n ≡ size (has (f .map) 5) 1) × (n ≤ 1) → m ≡ lineLength (f .map) → UpTo s (suc i) (set t i v) (rules + n) (at + m)
-    unfolding offset rulesUpTo subformulaAt line-checks
+    pub one-line : {v : Subformula} {n m : ℕ} → i < 64 → good-line (getD s 0 0) i f ≡ true → v ≡ subformula-of f
+        → (n ≡ size (has (f .map) 5) 1) × (n ≤ 1) → m ≡ line-length (f .map) → UpTo s (suc i) (set t i v) (rules + n) (at + m)
+    unfolding offset rules-up-to subformula-at line-checks
     one-line h g v n m =
         record {
           accepted = passed-line s i (u .accepted) (pass (ends whole) (pass (keeps (rw (← same) g)) none));

@@ -11,21 +11,21 @@ use lib.ListN.{length, getD}
 use Rattle.refusal.specs.declared.Refusal.{Refusal}
 use Rattle.refusal.specs.declared.Refusal.the-variants.{TruncatedPolicy, BadHeading, BadSubformula, RuleCount}
 use Rattle.refusal.specs.declared.Answer.the-variants.{Refused}
-use Rattle.refusal.specs.Numbers.{numberOf}
+use Rattle.refusal.specs.Numbers.{refusal-number}
 use Rattle.refusal.specs.Checks.{Check, Passed, none, pass, Refuses, here, there}
 use Rattle.refusal.specs.Laws.{refusal-law, passing-law, refused-first, refused-later, refused-where, passed-both, passed-parts}
 use Rattle.policy.specs.Encoded.{Rules-in}
-use Rattle.policy.specs.Format.{countOf, fieldsAt, goodLine, offset, rulesUpTo, heading-checks, line-checks, lines-checks, closing-checks, policy-checks, answerOf}
+use Rattle.policy.specs.Format.{count-of, fields-at, good-line, offset, rules-up-to, heading-checks, line-checks, lines-checks, closing-checks, policy-checks, answer-of}
 use Rattle.policy.specs.Proper.{Headed, Some-line, Fine, Fine-before, Whole, Cause, heading-cut, line-cut, bytes-follow, propositions-out, components-out, minutes-out, lines-out, line-bad, rules-out, Causes}
 use Rattle.policy.specs.Ranges.{in-between, between-in, not-between, outside, fails, denies}
 use Rattle.policy.specs.Stands.{line-law}
 
 module _ (s : List ℕ) where
   abbrev lines : List Check
-  lines = lines-checks s (countOf s)
+  lines = lines-checks s (count-of s)
 
   abbrev closing : List Check
-  closing = closing-checks (length s) (offset s (countOf s)) (rulesUpTo s (countOf s))
+  closing = closing-checks (length s) (offset s (count-of s)) (rules-up-to s (count-of s))
 
   -- ---- where in the list a refusal stands
 
@@ -82,7 +82,7 @@ module _ (s : List ℕ) where
       pass (between-in _ _ _ (r .propositions-in))
       (pass (between-in _ _ _ (r .components-in)) (pass (between-in _ _ _ (r .minutes-in)) (pass (between-in _ _ _ (r .lines-in)) none)))
 
-  line-test : (i : ℕ) → (goodLine (getD s 0 0) i (fieldsAt s (offset s i)) ≡ true) ↔ Some-line s i
+  line-test : (i : ℕ) → (good-line (getD s 0 0) i (fields-at s (offset s i)) ≡ true) ↔ Some-line s i
   line-test i = line-law s (getD s 0 0) i (offset s i)
 
   fine : (i : ℕ) → Passed (line-checks s i) → Fine s i
@@ -108,24 +108,24 @@ module _ (s : List ℕ) where
   refuses : (r : Refusal) → Cause s r → Refuses (policy-checks s) r
   unfolding heading-checks line-checks closing-checks
   refuses r (heading-cut h) = no-heading h
-  refuses r (line-cut i h l f c) = in-lines (h .long) (heading-passes h) _ (refused-line i (countOf s) _ l (lines-pass i f) (here (lt-leb _ _ c)))
+  refuses r (line-cut i h l f c) = in-lines (h .long) (heading-passes h) _ (refused-line i (count-of s) _ l (lines-pass i f) (here (lt-leb _ _ c)))
   refuses r (bytes-follow h f m) =
-      in-closing (h .long) (heading-passes h) _ (lines-pass (countOf s) f) (here (ne-eqb _ _ (λ (e : offset s (countOf s) ≡ length s). omega arith)))
+      in-closing (h .long) (heading-passes h) _ (lines-pass (count-of s) f) (here (ne-eqb _ _ (λ (e : offset s (count-of s) ≡ length s). omega arith)))
   refuses r (propositions-out h a) = in-heading h _ (here (outside _ _ _ a))
   refuses r (components-out h a b) = in-heading h _ (there (between-in _ _ _ a) (here (outside _ _ _ b)))
   refuses r (minutes-out h a b c) = in-heading h _ (there (between-in _ _ _ a) (there (between-in _ _ _ b) (here (outside _ _ _ c))))
   refuses r (lines-out h a b c d) =
       in-heading h _ (there (between-in _ _ _ a) (there (between-in _ _ _ b) (there (between-in _ _ _ c) (here (outside _ _ _ d)))))
   refuses r (line-bad i h l f e g) =
-      in-lines (h .long) (heading-passes h) _ (refused-line i (countOf s) _ l (lines-pass i f) (there (le-leb _ _ e) (here (fails _ (line-test i) g))))
+      in-lines (h .long) (heading-passes h) _ (refused-line i (count-of s) _ l (lines-pass i f) (there (le-leb _ _ e) (here (fails _ (line-test i) g))))
   refuses r (rules-out w n) =
-      in-closing (w .headed .long) (heading-passes (w .headed)) _ (lines-pass (countOf s) (w .lines)) (there (eq-eqb _ _ (w .ends)) (here (outside _ _ _ n)))
+      in-closing (w .headed .long) (heading-passes (w .headed)) _ (lines-pass (count-of s) (w .lines)) (there (eq-eqb _ _ (w .ends)) (here (outside _ _ _ n)))
 
-  passes : Whole s × Rules-in (rulesUpTo s (countOf s)) → Passed (policy-checks s)
+  passes : Whole s × Rules-in (rules-up-to s (count-of s)) → Passed (policy-checks s)
   unfolding closing-checks
   passes w =
       let h = w .0 .headed in
-      to-the-end (h .long) (heading-passes h) (lines-pass (countOf s) (w .0 .lines)) (pass (eq-eqb _ _ (w .0 .ends)) (pass (between-in _ _ _ (w .1)) none))
+      to-the-end (h .long) (heading-passes h) (lines-pass (count-of s) (w .0 .lines)) (pass (eq-eqb _ _ (w .0 .ends)) (pass (between-in _ _ _ (w .1)) none))
 
   of-heading : (r : Refusal) → 5 ≤ length s → Refuses (heading-checks s) r → Cause s r
   unfolding heading-checks
@@ -135,12 +135,12 @@ module _ (s : List ℕ) where
   of-heading r h (there a (there b (there c (here d)))) = lines-out h (in-between _ _ _ a) (in-between _ _ _ b) (in-between _ _ _ c) (not-between _ _ _ d)
 
   module _ (h : Headed s) where
-    of-line : (i : ℕ) (r : Refusal) → i < countOf s → Passed (lines-checks s i) → Refuses (line-checks s i) r → Cause s r
+    of-line : (i : ℕ) (r : Refusal) → i < count-of s → Passed (lines-checks s i) → Refuses (line-checks s i) r → Cause s r
     unfolding line-checks
     of-line i r l p (here c) = line-cut i h l (all-fine i p) (leb-false _ _ c)
     of-line i r l p (there e (here g)) = line-bad i h l (all-fine i p) (leb-true _ _ e) (denies _ (line-test i) g)
 
-    of-lines : (n : ℕ) (r : Refusal) → n ≤ countOf s → Refuses (lines-checks s n) r → Cause s r
+    of-lines : (n : ℕ) (r : Refusal) → n ≤ count-of s → Refuses (lines-checks s n) r → Cause s r
     unfolding lines-checks
     of-lines (suc n) r l q =
         ⊎-elim (of-lines n r (omega arith)) (λ (p : Passed (lines-checks s n) × Refuses (line-checks s n) r). of-line n r (omega arith) (p .0) (p .1))
@@ -154,17 +154,17 @@ module _ (s : List ℕ) where
     of-closing : (r : Refusal) → Passed lines → Refuses closing r → Cause s r
     unfolding closing-checks
     of-closing r p (here e) =
-        let f = all-fine (countOf s) p in
-        bytes-follow h f (omega (arith, inside (countOf s) (h .heading .lines-in .low) f, eqb-false (offset s (countOf s)) (length s) e))
-    of-closing r p (there e (here n)) = rules-out (record { headed = h; lines = all-fine (countOf s) p; ends = eqb-true _ _ e }) (not-between _ _ _ n)
+        let f = all-fine (count-of s) p in
+        bytes-follow h f (omega (arith, inside (count-of s) (h .heading .lines-in .low) f, eqb-false (offset s (count-of s)) (length s) e))
+    of-closing r p (there e (here n)) = rules-out (record { headed = h; lines = all-fine (count-of s) p; ends = eqb-true _ _ e }) (not-between _ _ _ n)
 
     -- every test passed
-    of-passed : Passed (lines ++ closing) → Whole s × Rules-in (rulesUpTo s (countOf s))
+    of-passed : Passed (lines ++ closing) → Whole s × Rules-in (rules-up-to s (count-of s))
     unfolding closing-checks
     of-passed q = let c = passed-parts lines closing q in go (c .0) (c .1)
       where
-        go : Passed lines → Passed closing → Whole s × Rules-in (rulesUpTo s (countOf s))
-        go l (pass e (pass r none)) = (record { headed = h; lines = all-fine (countOf s) l; ends = eqb-true _ _ e }, in-between _ _ _ r)
+        go : Passed lines → Passed closing → Whole s × Rules-in (rules-up-to s (count-of s))
+        go l (pass e (pass r none)) = (record { headed = h; lines = all-fine (count-of s) l; ends = eqb-true _ _ e }, in-between _ _ _ r)
 
   cause : (r : Refusal) → Refuses (policy-checks s) r → Cause s r
   unfolding policy-checks
@@ -174,21 +174,21 @@ module _ (s : List ℕ) where
       ⊎-elim (of-heading r l)
       (λ (p : Passed (heading-checks s) × Refuses (lines ++ closing) r).
       let g = headed l (p .0) in
-      ⊎-elim (of-lines g (countOf s) r (omega arith)) (λ (q : Passed lines × Refuses closing r). of-closing g r (q .0) (q .1)) (refused-where lines closing r (p .1)))
+      ⊎-elim (of-lines g (count-of s) r (omega arith)) (λ (q : Passed lines × Refuses closing r). of-closing g r (q .0) (q .1)) (refused-where lines closing r (p .1)))
       (refused-where (heading-checks s) (lines ++ closing) r q)
 
-  whole : Passed (policy-checks s) → Whole s × Rules-in (rulesUpTo s (countOf s))
+  whole : Passed (policy-checks s) → Whole s × Rules-in (rules-up-to s (count-of s))
   unfolding policy-checks
   whole (pass h q) = let p = passed-parts (heading-checks s) (lines ++ closing) q in of-passed (headed (leb-true 5 (length s) h) (p .0)) (p .1)
 
   -- ---- the causes
 
-  pub refused : (r : Refusal) → (answerOf s ≡ Refused r) ↔ Cause s r
-  unfolding answerOf
+  pub refused : (r : Refusal) → (answer-of s ≡ Refused r) ↔ Cause s r
+  unfolding answer-of
   refused r = (λ e. cause r (refusal-law (policy-checks s) r .0 e), λ c. refusal-law (policy-checks s) r .1 (refuses r c))
 
   pub causes : Causes s
-  unfolding answerOf
+  unfolding answer-of
   causes =
       record {
         one = λ at. refused (TruncatedPolicy at);
@@ -198,14 +198,14 @@ module _ (s : List ℕ) where
         accepted = (λ e. whole (passing-law (policy-checks s) .0 e), λ w. passing-law (policy-checks s) .1 (passes w));
       }
     where
-      rules-told : Cause s RuleCount → Whole s × (Rules-in (rulesUpTo s (countOf s)) → ⊥)
+      rules-told : Cause s RuleCount → Whole s × (Rules-in (rules-up-to s (count-of s)) → ⊥)
       rules-told (rules-out w n) = (w, n)
 
   -- the policy's reader answers 1 to 4 only
-  pub policy-refuses : (r : Refusal) → Refuses (policy-checks s) r → (1 ≤ numberOf r) × (numberOf r ≤ 4)
+  pub policy-refuses : (r : Refusal) → Refuses (policy-checks s) r → (1 ≤ refusal-number r) × (refusal-number r ≤ 4)
   policy-refuses r q = go r (cause r q)
     where
-      go : (r : Refusal) → Cause s r → (1 ≤ numberOf r) × (numberOf r ≤ 4)
+      go : (r : Refusal) → Cause s r → (1 ≤ refusal-number r) × (refusal-number r ≤ 4)
       go r (heading-cut h) = omega arith
       go r (line-cut i h l f c) = omega arith
       go r (bytes-follow h f m) = omega arith

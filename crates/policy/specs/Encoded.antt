@@ -6,7 +6,7 @@ use mathlib.Core.Bool.{Bool, cond}
 use mathlib.Core.List.{List, [], _∷_}
 use lib.ListN.{getD, length}
 use Rattle.encoding.specs.Fields.{has}
-use Rattle.encoding.specs.Layout.{number-at, follows, Laid}
+use Rattle.encoding.specs.Layout.{value-at, follows, Laid}
 use Rattle.mtl.specs.declared.Formula.{Formula}
 use Rattle.mtl.specs.declared.Formula.the-variants as F
 
@@ -80,7 +80,7 @@ rules-in lines (suc n) = rules-in lines n + cond (lines n .rule) 1 0
 -- The bytes are a card: "heading, 5 bytes: marks (1), stations (1), minutes (2), lines (1)", "then the lines, numbered from 0", each right after the
 -- one before it, and nothing after the last; "one to eight lines are rules"
 pub record Is-policy (s : List ℕ) : Type 0 where
-  pub heading : Is-heading (getD s 0 0) (getD s 1 0) (number-at s 2 2) (getD s 4 0)
+  pub heading : Is-heading (getD s 0 0) (getD s 1 0) (value-at s 2 2) (getD s 4 0)
   pub lines : ℕ → Line
   pub at : ℕ → ℕ
   pub starts : at 0 ≡ 5

@@ -5,7 +5,7 @@ use mathlib.Core.List.{List, [], _∷_, _++_}
 use lib.Dec.{eqb, ltb, leb}
 use lib.ListN.{getD, length, replicate}
 use Rattle.encoding.specs.Fields.{has, size, written}
-use Rattle.encoding.specs.Layout.{extent, number-at, field}
+use Rattle.encoding.specs.Layout.{extent, value-at, field}
 use Rattle.mtl.specs.declared.Formula.{Formula}
 use Rattle.mtl.specs.declared.Formula.the-variants as F
 use Rattle.refusal.specs.declared.Refusal.the-variants.{TruncatedPolicy, BadHeading, BadSubformula, RuleCount}
@@ -25,12 +25,12 @@ use Rattle.policy.specs.Encoded.{widths}
 -- ---- one line
 
 -- "A line is a bit map (1 byte), then only the fields whose bit stands": the length of the line with this map. Bits 5 to 7 don't change it
-unfoldable pub lineLength : ℕ → ℕ
-lineLength map = extent widths map
+unfoldable pub line-length : ℕ → ℕ
+line-length map = extent widths map
 
 -- the fields of the line whose map stands at a place
-unfoldable pub fieldsAt : List ℕ → ℕ → Fields
-fieldsAt s at =
+unfoldable pub fields-at : List ℕ → ℕ → Fields
+fields-at s at =
     record {
       map = getD s at 0;
       kind = field widths s at 0;
@@ -55,36 +55,36 @@ kinds =
     ∷ row true true true true TwoLines
     ∷ []
 
-abbrev pub kindOf : ℕ → Kind
-kindOf k = getD kinds k (row false false false false Nothing)
+abbrev pub kind-of : ℕ → Kind
+kind-of k = getD kinds k (row false false false false Nothing)
 
 -- the map names only fields that the kind allows
 abbrev pub allowed : Kind → ℕ → Bool
 allowed k map = (k .first || not (has map 1)) && ((k .second || not (has map 2)) && ((k .lower || not (has map 3)) && (k .upper || not (has map 4))))
 
 -- a mark of this card, or earlier lines
-abbrev pub operandsGood : Operands → ℕ → ℕ → ℕ → ℕ → Bool
-operandsGood Nothing propositions line first second = true
-operandsGood Proposition propositions line first second = ltb first propositions
-operandsGood Line propositions line first second = ltb first line
-operandsGood TwoLines propositions line first second = ltb first line && ltb second line
+abbrev pub operands-good : Operands → ℕ → ℕ → ℕ → ℕ → Bool
+operands-good Nothing propositions line first second = true
+operands-good Proposition propositions line first second = ltb first propositions
+operands-good Line propositions line first second = ltb first line
+operands-good TwoLines propositions line first second = ltb first line && ltb second line
 
 -- there is such a kind, and the fields keep its row
-unfoldable pub keepsKind : ℕ → ℕ → Fields → Bool
-keepsKind propositions line f =
+unfoldable pub keeps-kind : ℕ → ℕ → Fields → Bool
+keeps-kind propositions line f =
     ltb (f .kind) (length kinds)
-    && (allowed (kindOf (f .kind)) (f .map) && operandsGood (kindOf (f .kind) .operands) propositions line (f .first) (f .second))
+    && (allowed (kind-of (f .kind)) (f .map) && operands-good (kind-of (f .kind) .operands) propositions line (f .first) (f .second))
 
 -- "Bits 6 and 7 are 0." "A written field is not 0." The row of the kind, and "lower ≤ upper ≤ 1,023"
-unfoldable pub goodLine : ℕ → ℕ → Fields → Bool
-goodLine propositions line f =
+unfoldable pub good-line : ℕ → ℕ → Fields → Bool
+good-line propositions line f =
     ltb (f .map) 64
     && (written (has (f .map) 0) (f .kind)
     && (written (has (f .map) 1) (f .first)
     && (written (has (f .map) 2) (f .second)
     && (written (has (f .map) 3) (f .lower)
     && (written (has (f .map) 4) (f .upper)
-    && (keepsKind propositions line f
+    && (keeps-kind propositions line f
     && (leb (f .lower) (f .upper)
     && leb (f .upper) 1023)))))))
 
@@ -97,24 +97,24 @@ meaning (suc (suc (suc zero))) a b lower upper = F.Or a b
 meaning (suc (suc (suc (suc zero)))) a b lower upper = F.Since a b lower upper
 meaning (suc (suc (suc (suc (suc k))))) a b lower upper = F.Until a b lower upper
 
-unfoldable pub formulaOf : Fields → Formula
-formulaOf f = meaning (f .kind) (f .first) (f .second) (f .lower) (f .upper)
+unfoldable pub formula-of : Fields → Formula
+formula-of f = meaning (f .kind) (f .first) (f .second) (f .lower) (f .upper)
 
 -- "Bit 5 makes the line a rule"
-unfoldable pub subformulaOf : Fields → Subformula
-subformulaOf f = record { formula = formulaOf f; rule = has (f .map) 5 }
+unfoldable pub subformula-of : Fields → Subformula
+subformula-of f = record { formula = formula-of f; rule = has (f .map) 5 }
 
-unfoldable pub subformulaAt : List ℕ → ℕ → Subformula
-subformulaAt s at = subformulaOf (fieldsAt s at)
+unfoldable pub subformula-at : List ℕ → ℕ → Subformula
+subformula-at s at = subformula-of (fields-at s at)
 
 -- ---- the heading
 
 -- "Heading, 5 bytes: marks (1), stations (1), minutes (2), lines (1)"
-abbrev pub sizesOf : List ℕ → Sizes
-sizesOf s = record { propositions = getD s 0 0; components = getD s 1 0; minutes = number-at s 2 2 }
+abbrev pub sizes-of : List ℕ → Sizes
+sizes-of s = record { propositions = getD s 0 0; components = getD s 1 0; minutes = value-at s 2 2 }
 
-abbrev pub countOf : List ℕ → ℕ
-countOf s = getD s 4 0
+abbrev pub count-of : List ℕ → ℕ
+count-of s = getD s 4 0
 
 abbrev pub within : ℕ → ℕ → ℕ → Bool
 within least most n = leb least n && leb n most
@@ -124,8 +124,8 @@ unfoldable pub heading-checks : List ℕ → List Check
 heading-checks s =
     check (within 1 32 (getD s 0 0)) (BadHeading 0)
     ∷ check (within 1 16 (getD s 1 0)) (BadHeading 1)
-    ∷ check (within 1 1024 (number-at s 2 2)) (BadHeading 2)
-    ∷ check (within 1 64 (countOf s)) (BadHeading 4)
+    ∷ check (within 1 1024 (value-at s 2 2)) (BadHeading 2)
+    ∷ check (within 1 64 (count-of s)) (BadHeading 4)
     ∷ []
 
 -- ---- the lines, "numbered from 0"
@@ -133,13 +133,13 @@ heading-checks s =
 -- where line i starts
 unfoldable pub offset : List ℕ → ℕ → ℕ
 offset s zero = 5
-offset s (suc i) = offset s i + lineLength (getD s (offset s i) 0)
+offset s (suc i) = offset s i + line-length (getD s (offset s i) 0)
 
 -- "Line by line 1 before 3": 1 at the card's length where line i ends early, 3 at its map byte where it breaks a rule
 unfoldable pub line-checks : List ℕ → ℕ → List Check
 line-checks s i =
     check (leb (offset s (suc i)) (length s)) (TruncatedPolicy (length s))
-    ∷ check (goodLine (getD s 0 0) i (fieldsAt s (offset s i))) (BadSubformula (offset s i))
+    ∷ check (good-line (getD s 0 0) i (fields-at s (offset s i))) (BadSubformula (offset s i))
     ∷ []
 
 -- the first n lines
@@ -147,26 +147,26 @@ unfoldable pub lines-checks : List ℕ → ℕ → List Check
 lines-checks s zero = []
 lines-checks s (suc i) = lines-checks s i ++ line-checks s i
 
-unfoldable pub linesUpTo : List ℕ → ℕ → List Subformula
-linesUpTo s zero = []
-linesUpTo s (suc i) = linesUpTo s i ++ (subformulaAt s (offset s i) ∷ [])
+unfoldable pub lines-up-to : List ℕ → ℕ → List Subformula
+lines-up-to s zero = []
+lines-up-to s (suc i) = lines-up-to s i ++ (subformula-at s (offset s i) ∷ [])
 
-abbrev pub noLine : Subformula
-noLine = record { formula = F.True; rule = false }
+abbrev pub no-line : Subformula
+no-line = record { formula = F.True; rule = false }
 
 -- the n lines in a table of 64, the rest of it padding
-unfoldable pub subformulasOf : List ℕ → ℕ → List Subformula
-subformulasOf s n = linesUpTo s n ++ replicate (64 - n) noLine
+unfoldable pub subformulas-of : List ℕ → ℕ → List Subformula
+subformulas-of s n = lines-up-to s n ++ replicate (64 - n) no-line
 
 -- "Rule numbers follow line order from 0": the numbers of the first n lines that are rules, in order
-unfoldable pub ruleLines : List Subformula → ℕ → List ℕ
-ruleLines lines zero = []
-ruleLines lines (suc i) = ruleLines lines i ++ cond (getD lines i noLine .rule) (i ∷ []) []
+unfoldable pub rule-lines : List Subformula → ℕ → List ℕ
+rule-lines lines zero = []
+rule-lines lines (suc i) = rule-lines lines i ++ cond (getD lines i no-line .rule) (i ∷ []) []
 
 -- how many of the first n lines are rules
-unfoldable pub rulesUpTo : List ℕ → ℕ → ℕ
-rulesUpTo s zero = 0
-rulesUpTo s (suc i) = rulesUpTo s i + size (has (getD s (offset s i) 0) 5) 1
+unfoldable pub rules-up-to : List ℕ → ℕ → ℕ
+rules-up-to s zero = 0
+rules-up-to s (suc i) = rules-up-to s i + size (has (getD s (offset s i) 0) 5) 1
 
 -- ---- the card
 
@@ -179,22 +179,22 @@ unfoldable pub policy-checks : List ℕ → List Check
 policy-checks s =
     check (leb 5 (length s)) (TruncatedPolicy (length s))
     ∷ (heading-checks s
-    ++ (lines-checks s (countOf s)
-    ++ closing-checks (length s) (offset s (countOf s)) (rulesUpTo s (countOf s))))
+    ++ (lines-checks s (count-of s)
+    ++ closing-checks (length s) (offset s (count-of s)) (rules-up-to s (count-of s))))
 
-unfoldable pub answerOf : List ℕ → Answer
-answerOf s = first-failed (policy-checks s)
+unfoldable pub answer-of : List ℕ → Answer
+answer-of s = first-failed (policy-checks s)
 
-unfoldable pub policyOf : List ℕ → Policy
-policyOf s = record { sizes = sizesOf s; count = countOf s; rules = rulesUpTo s (countOf s); subformulas = subformulasOf s (countOf s) }
+unfoldable pub policy-of : List ℕ → Policy
+policy-of s = record { sizes = sizes-of s; count = count-of s; rules = rules-up-to s (count-of s); subformulas = subformulas-of s (count-of s) }
 
 -- what stands beside a refusal
 unfoldable pub blank : Policy
-blank = record { sizes = record { propositions = 0; components = 0; minutes = 0 }; count = 0; rules = 0; subformulas = replicate 64 noLine }
+blank = record { sizes = record { propositions = 0; components = 0; minutes = 0 }; count = 0; rules = 0; subformulas = replicate 64 no-line }
 
-abbrev pub withAnswer : Answer → Policy → Decoded
-withAnswer Accepted p = record { answer = Accepted; policy = p }
-withAnswer (Refused r) p = record { answer = Refused r; policy = blank }
+abbrev pub with-answer : Answer → Policy → Decoded
+with-answer Accepted p = record { answer = Accepted; policy = p }
+with-answer (Refused r) p = record { answer = Refused r; policy = blank }
 
-unfoldable pub decodeOf : List ℕ → Decoded
-decodeOf s = withAnswer (answerOf s) (policyOf s)
+unfoldable pub decode-of : List ℕ → Decoded
+decode-of s = with-answer (answer-of s) (policy-of s)

@@ -12,7 +12,7 @@ use Rattle.mtl.specs.declared.Formula.{Formula}
 use Rattle.mtl.specs.Syntax.{Operands, Proposes, Bounded}
 use Rattle.policy.specs.declared.Kind.{Kind}
 use Rattle.policy.specs.Encoded.{Is-line, is-true, is-proposition, is-not, is-or, is-since, is-until}
-use Rattle.policy.specs.Format.{kinds, kindOf, operandsGood, meaning}
+use Rattle.policy.specs.Format.{kinds, kind-of, operands-good, meaning}
 
 -- a field that the kind doesn't allow is 0
 abbrev pub zeros : Kind → ℕ → ℕ → ℕ → ℕ → Bool
@@ -38,8 +38,8 @@ are-zero k a b l u e =
 -- the numbers keep the row of their kind
 pub record Keeps (propositions i kind a b lower upper : ℕ) (x : Formula) : Type 0 where
   pub known : kind < length kinds
-  pub zero-else : zeros (kindOf kind) a b lower upper ≡ true
-  pub operands : operandsGood (kindOf kind .operands) propositions i a b ≡ true
+  pub zero-else : zeros (kind-of kind) a b lower upper ≡ true
+  pub operands : operands-good (kind-of kind .operands) propositions i a b ≡ true
   pub ordered : lower ≤ upper
   pub bounded : upper ≤ 1023
   pub means : x ≡ meaning kind a b lower upper
@@ -48,16 +48,16 @@ module _ {m i : ℕ} where
   pub is-a-line : (kind a b lower upper : ℕ) (x : Formula) → Keeps m i kind a b lower upper x → Is-line m i kind a b lower upper x
   unfolding meaning
   is-a-line zero a b l u x k =
-      let z = are-zero (kindOf 0) a b l u (k .zero-else) in
+      let z = are-zero (kind-of 0) a b l u (k .zero-else) in
       rw (k .means, z .no-first refl, z .no-second refl, z .no-lower refl, z .no-upper refl) is-true
   is-a-line (suc zero) a b l u x k =
-      let z = are-zero (kindOf 1) a b l u (k .zero-else) in
+      let z = are-zero (kind-of 1) a b l u (k .zero-else) in
       rw (k .means, z .no-second refl, z .no-lower refl, z .no-upper refl) (is-proposition a (ltb-true a m (k .operands)))
   is-a-line (suc (suc zero)) a b l u x k =
-      let z = are-zero (kindOf 2) a b l u (k .zero-else) in
+      let z = are-zero (kind-of 2) a b l u (k .zero-else) in
       rw (k .means, z .no-second refl, z .no-lower refl, z .no-upper refl) (is-not a (ltb-true a i (k .operands)))
   is-a-line (suc (suc (suc zero))) a b l u x k =
-      let z = are-zero (kindOf 3) a b l u (k .zero-else) in
+      let z = are-zero (kind-of 3) a b l u (k .zero-else) in
       let o = both (ltb a i) (ltb b i) (k .operands) in
       rw (k .means, z .no-lower refl, z .no-upper refl) (is-or a b (ltb-true a i (o .0)) (ltb-true b i (o .1)))
   is-a-line (suc (suc (suc (suc zero)))) a b l u x k =

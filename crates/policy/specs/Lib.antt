@@ -1,6 +1,5 @@
 -- The policy: its format, and the laws of what is read.
 pub mod Causes
-pub mod Chained
 pub mod Encoded
 pub mod Format
 pub mod Kinds

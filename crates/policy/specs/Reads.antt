@@ -13,40 +13,40 @@ use Rattle.encoding.specs.Laws.{laid-extent}
 use Rattle.refusal.specs.declared.Answer.the-variants.{Accepted}
 use Rattle.policy.specs.declared.Subformula.{Subformula}
 use Rattle.policy.specs.Encoded.{Rules-in, Line, widths, numbers, Line-at, rules-in, Is-policy}
-use Rattle.policy.specs.Format.{lineLength, fieldsAt, subformulaOf, subformulaAt, countOf, offset, noLine, rulesUpTo, answerOf, policyOf}
+use Rattle.policy.specs.Format.{line-length, fields-at, subformula-of, subformula-at, count-of, offset, no-line, rules-up-to, answer-of, policy-of}
 use Rattle.policy.specs.Proper.{Whole}
 use Rattle.policy.specs.Ranges.{never-falls}
-use Rattle.policy.specs.Stands.{lineOf, only}
+use Rattle.policy.specs.Stands.{line-of, only}
 use Rattle.policy.specs.Table.{line-at}
 use Rattle.policy.specs.Causes.{causes}
 
 module _ (s : List ℕ) where
   -- ---- accepted bytes are a card
 
-  rules-read : (n : ℕ) → rulesUpTo s n ≡ rules-in (λ i. lineOf (fieldsAt s (offset s i))) n
-  unfolding rulesUpTo fieldsAt
+  rules-read : (n : ℕ) → rules-up-to s n ≡ rules-in (λ i. line-of (fields-at s (offset s i))) n
+  unfolding rules-up-to fields-at
   rules-read zero = refl
   rules-read (suc n) = ap (λ (k : ℕ). k + size (has (getD s (offset s n) 0) 5) 1) (rules-read n)
 
   module _ (w : Whole s) where
     -- the line that is read stands there
-    line-read : (i : ℕ) → i < countOf s → Line-at s (getD s 0 0) i (offset s i) (lineOf (fieldsAt s (offset s i)))
+    line-read : (i : ℕ) → i < count-of s → Line-at s (getD s 0 0) i (offset s i) (line-of (fields-at s (offset s i)))
     line-read i h =
         let l = w .lines i h .1 in
         subst (Line-at s (getD s 0 0) i (offset s i)) (only s (getD s 0 0) i (offset s i) (l .0) (l .1)) (l .1)
 
-    is-policy : Rules-in (rulesUpTo s (countOf s)) → Is-policy s
-    unfolding offset lineLength
+    is-policy : Rules-in (rules-up-to s (count-of s)) → Is-policy s
+    unfolding offset line-length
     is-policy r =
         record {
           heading = w .headed .heading;
-          lines = λ i. lineOf (fieldsAt s (offset s i));
+          lines = λ i. line-of (fields-at s (offset s i));
           at = offset s;
           starts = refl;
           line = line-read;
           next = λ i h. laid-extent widths s (offset s i) _ (line-read i h .laid);
           ends = w .ends;
-          rules = subst Rules-in (rules-read (countOf s)) r;
+          rules = subst Rules-in (rules-read (count-of s)) r;
         }
 
   -- ---- a card is accepted
@@ -56,51 +56,51 @@ module _ (s : List ℕ) where
   grows = never-falls (offset s) (λ i. omega arith)
 
   module _ (p : Is-policy s) where
-    places : (i : ℕ) → i ≤ countOf s → p .at i ≡ offset s i
-    unfolding offset lineLength
+    places : (i : ℕ) → i ≤ count-of s → p .at i ≡ offset s i
+    unfolding offset line-length
     places zero h = p .starts
     places (suc i) h =
         p .next i (omega arith)
         ∙ sym (laid-extent widths s (p .at i) (numbers (p .lines i)) (p .line i (omega arith) .laid))
         ∙ ap (λ (at : ℕ). at + extent widths (getD s at 0)) (places i (omega arith))
 
-    stood : (i : ℕ) → i < countOf s → Line-at s (getD s 0 0) i (offset s i) (p .lines i)
+    stood : (i : ℕ) → i < count-of s → Line-at s (getD s 0 0) i (offset s i) (p .lines i)
     stood i h = subst (λ (at : ℕ). Line-at s (getD s 0 0) i at (p .lines i)) (places i (omega arith)) (p .line i h)
 
-    ends : offset s (countOf s) ≡ length s
-    ends = sym (places (countOf s) (omega arith)) ∙ p .ends
+    ends : offset s (count-of s) ≡ length s
+    ends = sym (places (count-of s) (omega arith)) ∙ p .ends
 
     whole : Whole s
     unfolding offset
     whole =
         record {
-          headed = record { long = omega (arith, grows (countOf s) 0 (omega arith), ends); heading = p .heading };
-          lines = λ j h. (omega (arith, grows (countOf s) (suc j) (omega arith), ends), (p .lines j, stood j h));
+          headed = record { long = omega (arith, grows (count-of s) 0 (omega arith), ends); heading = p .heading };
+          lines = λ j h. (omega (arith, grows (count-of s) (suc j) (omega arith), ends), (p .lines j, stood j h));
           ends = ends;
         }
 
-    rules-stood : (n : ℕ) → n ≤ countOf s → rules-in (p .lines) n ≡ rulesUpTo s n
-    unfolding rulesUpTo
+    rules-stood : (n : ℕ) → n ≤ count-of s → rules-in (p .lines) n ≡ rules-up-to s n
+    unfolding rules-up-to
     rules-stood zero h = refl
     rules-stood (suc n) h =
         ap (λ (k : ℕ). k + size (p .lines n .rule) 1) (rules-stood n (omega arith))
-        ∙ ap (λ (b : Bool). rulesUpTo s n + size b 1) (sym (stood n (omega arith) .rule))
+        ∙ ap (λ (b : Bool). rules-up-to s n + size b 1) (sym (stood n (omega arith) .rule))
 
   -- ---- what is accepted, and what is read
 
-  pub accepts : (answerOf s ≡ Accepted) ↔ Is-policy s
+  pub accepts : (answer-of s ≡ Accepted) ↔ Is-policy s
   accepts = (
     λ e. let w = causes s .accepted .0 e in is-policy (w .0) (w .1),
-    λ p. causes s .accepted .1 (whole p, subst Rules-in (rules-stood p (countOf s) (omega arith)) (p .rules)),
+    λ p. causes s .accepted .1 (whole p, subst Rules-in (rules-stood p (count-of s) (omega arith)) (p .rules)),
   )
 
-  pub reads : (p : Is-policy s) (i : ℕ) → i < countOf s
-      → getD (policyOf s .subformulas) i noLine ≡ record { formula = p .lines i .formula; rule = p .lines i .rule }
-  unfolding policyOf subformulaAt subformulaOf
+  pub reads : (p : Is-policy s) (i : ℕ) → i < count-of s
+      → getD (policy-of s .subformulas) i no-line ≡ record { formula = p .lines i .formula; rule = p .lines i .rule }
+  unfolding policy-of subformula-at subformula-of
   reads p i h =
-      line-at s (countOf s) i h
+      line-at s (count-of s) i h
       ∙ ap {B = Subformula} (λ (l : Line). record { formula = l .formula; rule = l .rule }) (sym (only s (getD s 0 0) i (offset s i) (p .lines i) (stood p i h)))
 
-  pub reads-rules : (p : Is-policy s) → policyOf s .rules ≡ rules-in (p .lines) (countOf s)
-  unfolding policyOf
-  reads-rules p = sym (rules-stood p (countOf s) (omega arith))
+  pub reads-rules : (p : Is-policy s) → policy-of s .rules ≡ rules-in (p .lines) (count-of s)
+  unfolding policy-of
+  reads-rules p = sym (rules-stood p (count-of s) (omega arith))

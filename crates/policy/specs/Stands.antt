@@ -15,7 +15,7 @@ use Rattle.mtl.specs.Folds.{both, pair}
 use Rattle.policy.specs.declared.Fields.{Fields}
 use Rattle.policy.specs.declared.Kind.{Kind}
 use Rattle.policy.specs.Encoded.{Line, widths, numbers, Line-at}
-use Rattle.policy.specs.Format.{fieldsAt, kinds, kindOf, allowed, keepsKind, goodLine, formulaOf}
+use Rattle.policy.specs.Format.{fields-at, kinds, kind-of, allowed, keeps-kind, good-line, formula-of}
 use Rattle.policy.specs.Kinds.{zeros, Keeps, is-a-line, keeps}
 
 -- a bit that doesn't stand is a number that is 0
@@ -44,17 +44,17 @@ five P a b c d e (suc (suc (suc (suc zero)))) h = e
 five P a b c d e (suc (suc (suc (suc (suc k))))) h = absurd (omega arith)
 
 -- the line that the fields make
-abbrev pub lineOf : Fields → Line
-lineOf f =
-    record { kind = f .kind; first = f .first; second = f .second; lower = f .lower; upper = f .upper; rule = has (f .map) 5; formula = formulaOf f }
+abbrev pub line-of : Fields → Line
+line-of f =
+    record { kind = f .kind; first = f .first; second = f .second; lower = f .lower; upper = f .upper; rule = has (f .map) 5; formula = formula-of f }
 
 module _ (s : List ℕ) (m i at : ℕ) where
   abbrev map : ℕ
   map = getD s at 0
 
   -- its numbers are the fields that are read
-  its-numbers : (k : ℕ) → field widths s at k ≡ numbers (lineOf (fieldsAt s at)) k
-  unfolding fieldsAt
+  its-numbers : (k : ℕ) → field widths s at k ≡ numbers (line-of (fields-at s at)) k
+  unfolding fields-at
   its-numbers zero = refl
   its-numbers (suc zero) = refl
   its-numbers (suc (suc zero)) = refl
@@ -67,26 +67,26 @@ module _ (s : List ℕ) (m i at : ℕ) where
       no-field false = refl
 
   -- a line that passes its tests stands there
-  stands : goodLine m i (fieldsAt s at) ≡ true → Line-at s m i at (lineOf (fieldsAt s at))
-  unfolding goodLine keepsKind fieldsAt formulaOf
+  stands : good-line m i (fields-at s at) ≡ true → Line-at s m i at (line-of (fields-at s at))
+  unfolding good-line keeps-kind fields-at formula-of
   stands good =
-      let f = fieldsAt s at in
+      let f = fields-at s at in
       let a = both (ltb map 64) _ good in
       let b = both (written (has map 0) (f .kind)) _ (a .1) in
       let c = both (written (has map 1) (f .first)) _ (b .1) in
       let d = both (written (has map 2) (f .second)) _ (c .1) in
       let e = both (written (has map 3) (f .lower)) _ (d .1) in
       let g = both (written (has map 4) (f .upper)) _ (e .1) in
-      let h = both (keepsKind m i f) _ (g .1) in
+      let h = both (keeps-kind m i f) _ (g .1) in
       let o = both (leb (f .lower) (f .upper)) _ (h .1) in
       let k = both (ltb (f .kind) (length kinds)) _ (h .0) in
-      let n = both (allowed (kindOf (f .kind)) map) _ (k .1) in
+      let n = both (allowed (kind-of (f .kind)) map) _ (k .1) in
       let laid = fields-laid widths s at (five (λ j. written (has map j) (field widths s at j) ≡ true) (b .0) (c .0) (d .0) (e .0) (g .0)) in
       record {
-        is-line = is-a-line (f .kind) (f .first) (f .second) (f .lower) (f .upper) (formulaOf f)
+        is-line = is-a-line (f .kind) (f .first) (f .second) (f .lower) (f .upper) (formula-of f)
             (record {
               known = ltb-true _ _ (k .0);
-              zero-else = sym (names (kindOf (f .kind)) map (field widths s at) (laid .bits)) ∙ n .0;
+              zero-else = sym (names (kind-of (f .kind)) map (field widths s at) (laid .bits)) ∙ n .0;
               operands = n .1;
               ordered = leb-true _ _ (o .0);
               bounded = leb-true _ _ (o .1);
@@ -101,15 +101,15 @@ module _ (s : List ℕ) (m i at : ℕ) where
     kept : Keeps m i (l .kind) (l .first) (l .second) (l .lower) (l .upper) (l .formula)
     kept = keeps _ _ _ _ _ _ (t .is-line)
 
-    its-fields : fieldsAt s at ≡ record { map = map; kind = l .kind; first = l .first; second = l .second; lower = l .lower; upper = l .upper }
-    unfolding fieldsAt
+    its-fields : fields-at s at ≡ record { map = map; kind = l .kind; first = l .first; second = l .second; lower = l .lower; upper = l .upper }
+    unfolding fields-at
     its-fields =
         let read = laid-field widths s at (numbers l) (t .laid) in
         rw (read 0 (omega arith), read 1 (omega arith), read 2 (omega arith), read 3 (omega arith), read 4 (omega arith))
 
     -- a line that stands there passes its tests
-    passes : goodLine m i (fieldsAt s at) ≡ true
-    unfolding goodLine keepsKind
+    passes : good-line m i (fields-at s at) ≡ true
+    unfolding good-line keeps-kind
     passes =
         let bits = t .laid .bits in
         let w : (k : ℕ) → k < 5 → written (has map k) (numbers l k) ≡ true = λ k h. is-written (has map k) (numbers l k) (bits k h .0) in
@@ -123,14 +123,14 @@ module _ (s : List ℕ) (m i at : ℕ) where
         (pair
         (pair (lt-ltb _ _ (kept .known))
         (pair
-        (names (kindOf (l .kind)) map (numbers l) bits ∙ kept .zero-else)
+        (names (kind-of (l .kind)) map (numbers l) bits ∙ kept .zero-else)
         (kept .operands)))
         (pair (le-leb _ _ (kept .ordered)) (le-leb _ _ (kept .bounded))))))))))
 
     -- and it is the line that is read
-    pub only : l ≡ lineOf (fieldsAt s at)
-    unfolding formulaOf
+    pub only : l ≡ line-of (fields-at s at)
+    unfolding formula-of
     only = rw (its-fields, kept .means, t .rule)
 
-  pub line-law : (goodLine m i (fieldsAt s at) ≡ true) ↔ ((l : Line) × Line-at s m i at l)
-  line-law = (λ e. (lineOf (fieldsAt s at), stands e), λ l. passes (l .0) (l .1))
+  pub line-law : (good-line m i (fields-at s at) ≡ true) ↔ ((l : Line) × Line-at s m i at l)
+  line-law = (λ e. (line-of (fields-at s at), stands e), λ l. passes (l .0) (l .1))

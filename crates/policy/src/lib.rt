@@ -15,7 +15,7 @@ ghost use lib.ListN.{length, getD};
 ghost use lib.Dec.{eqb, leb};
 ghost use Rattle.encoding.specs.Fields.{size, written};
 ghost use Rattle.refusal.specs.Checks.{first-failed};
-ghost use Rattle.policy.specs.Format.{lineLength, fieldsAt, allowed, operandsGood, keepsKind, goodLine, formulaOf, subformulaOf, within, heading-checks, sizesOf, blank, withAnswer, closing-checks, decodeOf};
+ghost use Rattle.policy.specs.Format.{line-length, fields-at, allowed, operands-good, keeps-kind, good-line, formula-of, subformula-of, within, heading-checks, sizes-of, blank, with-answer, closing-checks, decode-of};
 ghost use Rattle.policy.specs.Lines.{Scans};
 
 // How many bytes the heading takes.
@@ -181,7 +181,7 @@ fn field_size(map: u8, weight: u8, n: usize) -> usize
 
 // The length of a line, its map included.
 fn line_length(map: u8) -> usize
-    ensures { λ r. ⌜ (r ≡ lineLength map) × (r ≤ 8) ⌝ }
+    ensures { λ r. ⌜ (r ≡ line-length map) × (r ≤ 8) ⌝ }
 {
     let kind = field_size(map, HAS_KIND, 1);
     let first = field_size(map, HAS_FIRST, 1);
@@ -194,7 +194,7 @@ fn line_length(map: u8) -> usize
 // Are all bytes of the line at a place there.
 fn is_whole(s: &[u8], at: usize) -> bool
     requires { ⌜ at ≤ length (now s) ⌝ }
-    ensures { λ r. ⌜ r ≡ leb (at + lineLength (getD (now (s .entry)) at 0)) (length (now (s .entry))) ⌝ }
+    ensures { λ r. ⌜ r ≡ leb (at + line-length (getD (now (s .entry)) at 0)) (length (now (s .entry))) ⌝ }
 {
     let length = s.len();
     if length <= at {
@@ -205,8 +205,8 @@ fn is_whole(s: &[u8], at: usize) -> bool
 
 // The fields of the line at a place.
 fn fields_at(s: &[u8], at: usize) -> Fields
-    requires { ⌜ at + lineLength (getD (now s) at 0) ≤ length (now s) ⌝ }
-    ensures { λ r. ⌜ r ≡ fieldsAt (now (s .entry)) at ⌝ }
+    requires { ⌜ at + line-length (getD (now s) at 0) ≤ length (now s) ⌝ }
+    ensures { λ r. ⌜ r ≡ fields-at (now (s .entry)) at ⌝ }
 {
     let map = s[at];
     let first = at + 1 + field_size(map, HAS_KIND, 1);
@@ -250,7 +250,7 @@ fn operands_good(
     first: usize,
     second: usize,
 ) -> bool
-    ensures { λ r. ⌜ r ≡ operandsGood operands propositions line first second ⌝ }
+    ensures { λ r. ⌜ r ≡ operands-good operands propositions line first second ⌝ }
 {
     match operands {
         Operands::Nothing => true,
@@ -262,7 +262,7 @@ fn operands_good(
 
 // Is there such a kind, and do the fields keep its row.
 fn keeps_kind(propositions: u8, line: usize, fields: Fields) -> bool
-    ensures { λ r. ⌜ r ≡ keepsKind propositions line fields ⌝ }
+    ensures { λ r. ⌜ r ≡ keeps-kind propositions line fields ⌝ }
 {
     let kind = fields.kind as usize;
     if kind >= KINDS.len() {
@@ -283,7 +283,7 @@ fn keeps_kind(propositions: u8, line: usize, fields: Fields) -> bool
 
 // Does the line keep every rule.
 fn good_line(propositions: u8, line: usize, fields: Fields) -> bool
-    ensures { λ r. ⌜ r ≡ goodLine propositions line fields ⌝ }
+    ensures { λ r. ⌜ r ≡ good-line propositions line fields ⌝ }
 {
     let map = fields.map;
     let kind = field_good(map, HAS_KIND, fields.kind as u32);
@@ -299,7 +299,7 @@ fn good_line(propositions: u8, line: usize, fields: Fields) -> bool
 
 // The meaning of a line.
 fn formula_of(fields: Fields) -> Formula
-    ensures { λ r. ⌜ r ≡ formulaOf fields ⌝ }
+    ensures { λ r. ⌜ r ≡ formula-of fields ⌝ }
 {
     let kind = fields.kind;
     if kind == TRUE {
@@ -332,7 +332,7 @@ fn formula_of(fields: Fields) -> Formula
 
 // The line's meaning, and whether it is a rule.
 fn subformula_of(fields: Fields) -> Subformula
-    ensures { λ r. ⌜ r ≡ subformulaOf fields ⌝ }
+    ensures { λ r. ⌜ r ≡ subformula-of fields ⌝ }
 {
     let formula = formula_of(fields);
     let rule = has(fields.map, IS_RULE);
@@ -418,7 +418,7 @@ fn scan(s: &[u8], count: usize) -> Scanned
 
 // What stands beside a refusal.
 fn refused(r: Refusal) -> Decoded
-    ensures { λ d. ⌜ d ≡ withAnswer (Answer.Refused r) blank ⌝ }
+    ensures { λ d. ⌜ d ≡ with-answer (Answer.Refused r) blank ⌝ }
 {
     let none = Subformula {
         formula: Formula::True,
@@ -457,7 +457,7 @@ fn closing_answer(length: usize, at: usize, rules: usize) -> Answer
 // The heading's numbers but the last.
 fn sizes_of(s: &[u8]) -> Sizes
     requires { ⌜ 5 ≤ length (now s) ⌝ }
-    ensures { λ r. ⌜ r ≡ sizesOf (now (s .entry)) ⌝ }
+    ensures { λ r. ⌜ r ≡ sizes-of (now (s .entry)) ⌝ }
 {
     Sizes {
         propositions: s[0] as usize,
@@ -469,7 +469,7 @@ fn sizes_of(s: &[u8]) -> Sizes
 // Reads a policy whose heading is good.
 fn decode_lines(s: &[u8]) -> Decoded
     requires { ⌜ (5 ≤ length (now s)) × (first-failed (heading-checks (now s)) ≡ Answer.Accepted) ⌝ }
-    ensures { λ r. ⌜ r ≡ decodeOf (now (s .entry)) ⌝ }
+    ensures { λ r. ⌜ r ≡ decode-of (now (s .entry)) ⌝ }
 {
     let count = s[4] as usize;
     let lines = scan(s, count);
@@ -499,7 +499,7 @@ fn decode_lines(s: &[u8]) -> Decoded
 
 // Reads a policy, or says why it is refused.
 pub fn decode(s: &[u8]) -> Decoded
-    ensures { λ r. ⌜ r ≡ decodeOf (now (s .entry)) ⌝ }
+    ensures { λ r. ⌜ r ≡ decode-of (now (s .entry)) ⌝ }
 {
     let length = s.len();
     if length < HEADING {

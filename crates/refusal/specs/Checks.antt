@@ -6,7 +6,7 @@ use mathlib.Core.List.{List, [], _∷_}
 use Rattle.refusal.specs.declared.Refusal.{Refusal}
 use Rattle.refusal.specs.declared.Answer.{Answer}
 use Rattle.refusal.specs.declared.Answer.the-variants.{Accepted, Refused}
-use Rattle.refusal.specs.Numbers.{numberOf, placeOf}
+use Rattle.refusal.specs.Numbers.{refusal-number, refusal-place}
 
 -- a test, and the refusal where it fails
 pub record Check : Type 0 where
@@ -42,5 +42,5 @@ pub data Refuses : List Check → Refusal → Type 0 where
 pub record Refused-with (a : Answer) (n at : ℕ) : Type 0 where
   pub refusal : Refusal
   pub is : a ≡ Refused refusal
-  pub number : numberOf refusal ≡ n
-  pub place : placeOf refusal ≡ at
+  pub number : refusal-number refusal ≡ n
+  pub place : refusal-place refusal ≡ at

@@ -11,7 +11,7 @@ use borrow.Author.Tests.{eq-eqb}
 use Rattle.refusal.specs.declared.Refusal.{Refusal}
 use Rattle.refusal.specs.declared.Answer.{Answer}
 use Rattle.refusal.specs.declared.Answer.the-variants.{Accepted, Refused}
-use Rattle.refusal.specs.Numbers.{numberOf, placeOf, refusal-of, only-one}
+use Rattle.refusal.specs.Numbers.{refusal-number, refusal-place, refusal-of, only-one}
 use Rattle.refusal.specs.Checks.{Check, first-failed, and-then, Passed, none, pass, Refuses, here, there, Refused-with}
 
 pub not-accepted : (r : Refusal) → Refused r ≡ Accepted → ⊥
@@ -93,11 +93,11 @@ passed-parts (c ∷ cs) ys (pass p q) = let r = passed-parts cs ys q in (pass p 
 -- some check of the list has the number
 abbrev pub numbered : List Check → ℕ → Bool
 numbered [] n = false
-numbered (c ∷ cs) n = eqb (numberOf (c .refusal)) n || numbered cs n
+numbered (c ∷ cs) n = eqb (refusal-number (c .refusal)) n || numbered cs n
 
-pub its-number : {cs : List Check} {r : Refusal} → Refuses cs r → numbered cs (numberOf r) ≡ true
-its-number {cs = c ∷ cs} (here p) = rw (eq-eqb (numberOf (c .refusal)) (numberOf (c .refusal)) refl)
-its-number {cs = c ∷ cs} {r = r} (there p q) = rw (its-number q) (or-true (eqb (numberOf (c .refusal)) (numberOf r)))
+pub its-number : {cs : List Check} {r : Refusal} → Refuses cs r → numbered cs (refusal-number r) ≡ true
+its-number {cs = c ∷ cs} (here p) = rw (eq-eqb (refusal-number (c .refusal)) (refusal-number (c .refusal)) refl)
+its-number {cs = c ∷ cs} {r = r} (there p q) = rw (its-number q) (or-true (eqb (refusal-number (c .refusal)) (refusal-number r)))
 
 -- a refusal that no later check gives, and one that no earlier check gives
 pub refused-before : (xs ys : List Check) (r : Refusal) → (Refuses ys r → ⊥) → Refuses (xs ++ ys) r ↔ Refuses xs r
@@ -115,7 +115,7 @@ refused-after xs ys r n = (λ q. go (refused-where xs ys r q), λ q. refused-lat
     go (inr q) = q
 
 -- a list without the number does not give the refusal
-pub other-number : {cs : List Check} {r : Refusal} → numbered cs (numberOf r) ≡ false → Refuses cs r → ⊥
+pub other-number : {cs : List Check} {r : Refusal} → numbered cs (refusal-number r) ≡ false → Refuses cs r → ⊥
 other-number e q = true≢false (sym (its-number q) ∙ e)
 
 -- ---- answers by number and place
@@ -125,16 +125,16 @@ the-refusal w = sym (only-one (w .refusal)) ∙ ap₂ refusal-of (w .number) (w 
 
 -- a list is refused with a number and place exactly when it gives the refusal that has them
 pub number-law : (cs : List Check) (n at : ℕ)
-    → Refused-with (first-failed cs) n at ↔ (Refuses cs (refusal-of n at) × (numberOf (refusal-of n at) ≡ n) × (placeOf (refusal-of n at) ≡ at))
+    → Refused-with (first-failed cs) n at ↔ (Refuses cs (refusal-of n at) × (refusal-number (refusal-of n at) ≡ n) × (refusal-place (refusal-of n at) ≡ at))
 number-law cs n at = (there, back)
   where
-    there : Refused-with (first-failed cs) n at → Refuses cs (refusal-of n at) × (numberOf (refusal-of n at) ≡ n) × (placeOf (refusal-of n at) ≡ at)
+    there : Refused-with (first-failed cs) n at → Refuses cs (refusal-of n at) × (refusal-number (refusal-of n at) ≡ n) × (refusal-place (refusal-of n at) ≡ at)
     there w =
         let e = the-refusal w in (
           refused-by cs (refusal-of n at) (w .is ∙ ap Refused e),
-          ap numberOf (sym e) ∙ w .number,
-          ap placeOf (sym e) ∙ w .place,
+          ap refusal-number (sym e) ∙ w .number,
+          ap refusal-place (sym e) ∙ w .place,
         )
 
-    back : Refuses cs (refusal-of n at) × (numberOf (refusal-of n at) ≡ n) × (placeOf (refusal-of n at) ≡ at) → Refused-with (first-failed cs) n at
+    back : Refuses cs (refusal-of n at) × (refusal-number (refusal-of n at) ≡ n) × (refusal-place (refusal-of n at) ≡ at) → Refused-with (first-failed cs) n at
     back q = record { refusal = refusal-of n at; is = refuses-with (q .0); number = q .1; place = q .2 }

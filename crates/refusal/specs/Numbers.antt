@@ -4,30 +4,30 @@ use mathlib.Core.Path.{_≡_, refl}
 use Rattle.refusal.specs.declared.Refusal.{Refusal}
 use Rattle.refusal.specs.declared.Refusal.the-variants.{TruncatedPolicy, BadHeading, BadSubformula, RuleCount, BufferSize, CorruptKnowledge, TruncatedMessage, BadMessage, Conflict, OutOfRange}
 
-abbrev pub numberOf : Refusal → ℕ
-numberOf (TruncatedPolicy at) = 1
-numberOf (BadHeading at) = 2
-numberOf (BadSubformula at) = 3
-numberOf RuleCount = 4
-numberOf BufferSize = 5
-numberOf CorruptKnowledge = 6
-numberOf (TruncatedMessage at) = 7
-numberOf BadMessage = 8
-numberOf Conflict = 9
-numberOf OutOfRange = 10
+abbrev pub refusal-number : Refusal → ℕ
+refusal-number (TruncatedPolicy at) = 1
+refusal-number (BadHeading at) = 2
+refusal-number (BadSubformula at) = 3
+refusal-number RuleCount = 4
+refusal-number BufferSize = 5
+refusal-number CorruptKnowledge = 6
+refusal-number (TruncatedMessage at) = 7
+refusal-number BadMessage = 8
+refusal-number Conflict = 9
+refusal-number OutOfRange = 10
 
 -- the place named in the table, and 0 where it names none
-abbrev pub placeOf : Refusal → ℕ
-placeOf (TruncatedPolicy at) = at
-placeOf (BadHeading at) = at
-placeOf (BadSubformula at) = at
-placeOf RuleCount = 0
-placeOf BufferSize = 0
-placeOf CorruptKnowledge = 0
-placeOf (TruncatedMessage at) = at
-placeOf BadMessage = 0
-placeOf Conflict = 0
-placeOf OutOfRange = 0
+abbrev pub refusal-place : Refusal → ℕ
+refusal-place (TruncatedPolicy at) = at
+refusal-place (BadHeading at) = at
+refusal-place (BadSubformula at) = at
+refusal-place RuleCount = 0
+refusal-place BufferSize = 0
+refusal-place CorruptKnowledge = 0
+refusal-place (TruncatedMessage at) = at
+refusal-place BadMessage = 0
+refusal-place Conflict = 0
+refusal-place OutOfRange = 0
 
 -- the refusal with this number and place
 abbrev pub refusal-of : ℕ → ℕ → Refusal
@@ -44,7 +44,7 @@ refusal-of (suc (suc (suc (suc (suc (suc (suc (suc (suc zero))))))))) at = Confl
 refusal-of (suc (suc (suc (suc (suc (suc (suc (suc (suc (suc n)))))))))) at = OutOfRange
 
 -- it is the only one
-pub only-one : (r : Refusal) → refusal-of (numberOf r) (placeOf r) ≡ r
+pub only-one : (r : Refusal) → refusal-of (refusal-number r) (refusal-place r) ≡ r
 only-one (TruncatedPolicy at) = refl
 only-one (BadHeading at) = refl
 only-one (BadSubformula at) = refl

@@ -2,29 +2,29 @@
 use Prim.Native.Nat.{ℕ}
 use mathlib.Core.Path.{_≡_, refl}
 use Rattle.refusal.specs.declared.Refusal.the-variants.{TruncatedPolicy, BadHeading, BadSubformula, RuleCount, BufferSize, CorruptKnowledge, TruncatedMessage, BadMessage, Conflict, OutOfRange}
-use Rattle.refusal.specs.Numbers.{numberOf, placeOf}
+use Rattle.refusal.specs.Numbers.{refusal-number, refusal-place}
 
 pub record Table : Type 0 where
   -- 1, cut card: card length, or first extra byte
-  pub cut-card : (at : ℕ) → (numberOf (TruncatedPolicy at) ≡ 1) × (placeOf (TruncatedPolicy at) ≡ at)
+  pub cut-card : (at : ℕ) → (refusal-number (TruncatedPolicy at) ≡ 1) × (refusal-place (TruncatedPolicy at) ≡ at)
   -- 2, bad heading: first byte of the first such field
-  pub bad-heading : (at : ℕ) → (numberOf (BadHeading at) ≡ 2) × (placeOf (BadHeading at) ≡ at)
+  pub bad-heading : (at : ℕ) → (refusal-number (BadHeading at) ≡ 2) × (refusal-place (BadHeading at) ≡ at)
   -- 3, bad line: the line's map byte
-  pub bad-line : (at : ℕ) → (numberOf (BadSubformula at) ≡ 3) × (placeOf (BadSubformula at) ≡ at)
+  pub bad-line : (at : ℕ) → (refusal-number (BadSubformula at) ≡ 3) × (refusal-place (BadSubformula at) ≡ at)
   -- 4, rule count
-  pub rule-count : (numberOf RuleCount ≡ 4) × (placeOf RuleCount ≡ 0)
+  pub rule-count : (refusal-number RuleCount ≡ 4) × (refusal-place RuleCount ≡ 0)
   -- 5, wrong tray
-  pub wrong-tray : (numberOf BufferSize ≡ 5) × (placeOf BufferSize ≡ 0)
+  pub wrong-tray : (refusal-number BufferSize ≡ 5) × (refusal-place BufferSize ≡ 0)
   -- 6, spoiled record
-  pub spoiled-record : (numberOf CorruptKnowledge ≡ 6) × (placeOf CorruptKnowledge ≡ 0)
+  pub spoiled-record : (refusal-number CorruptKnowledge ≡ 6) × (refusal-place CorruptKnowledge ≡ 0)
   -- 7, cut slip: slip length, or first extra byte
-  pub cut-slip : (at : ℕ) → (numberOf (TruncatedMessage at) ≡ 7) × (placeOf (TruncatedMessage at) ≡ at)
+  pub cut-slip : (at : ℕ) → (refusal-number (TruncatedMessage at) ≡ 7) × (refusal-place (TruncatedMessage at) ≡ at)
   -- 8, bad slip
-  pub bad-slip : (numberOf BadMessage ≡ 8) × (placeOf BadMessage ≡ 0)
+  pub bad-slip : (refusal-number BadMessage ≡ 8) × (refusal-place BadMessage ≡ 0)
   -- 9, clash
-  pub clash : (numberOf Conflict ≡ 9) × (placeOf Conflict ≡ 0)
+  pub clash : (refusal-number Conflict ≡ 9) × (refusal-place Conflict ≡ 0)
   -- 10, off the sheet
-  pub off-the-sheet : (numberOf OutOfRange ≡ 10) × (placeOf OutOfRange ≡ 0)
+  pub off-the-sheet : (refusal-number OutOfRange ≡ 10) × (refusal-place OutOfRange ≡ 0)
 
 pub table : Table
 table = record {

@@ -1,6 +1,6 @@
 // The reasons to turn a call away (01: the table of reasons), each with its number and place.
 ghost use mathlib.Core.Path.{_≡_};
-ghost use Rattle.refusal.specs.Numbers.{numberOf, placeOf};
+ghost use Rattle.refusal.specs.Numbers.{refusal-number, refusal-place};
 
 // A place stands beside each reason that has one; the others have place 0.
 pub enum Refusal {
@@ -34,7 +34,7 @@ pub enum Answer {
 
 // The number that a refusal carries.
 pub fn number(r: Refusal) -> u8
-    ensures { λ n. ⌜ n ≡ numberOf r ⌝ }
+    ensures { λ n. ⌜ n ≡ refusal-number r ⌝ }
 {
     match r {
         Refusal::TruncatedPolicy(_) => 1,
@@ -52,7 +52,7 @@ pub fn number(r: Refusal) -> u8
 
 // The place that a refusal carries.
 pub fn place(r: Refusal) -> usize
-    ensures { λ n. ⌜ n ≡ placeOf r ⌝ }
+    ensures { λ n. ⌜ n ≡ refusal-place r ⌝ }
 {
     match r {
         Refusal::TruncatedPolicy(at) => at,

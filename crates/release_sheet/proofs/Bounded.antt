@@ -7,7 +7,7 @@ use native.Mathlib.Omega.{arith}
 use Rattle.policy.specs.declared.Policy.{Policy}
 use Rattle.refusal.specs.declared.Answer.{Answer}
 use Rattle.refusal.specs.declared.Answer.the-variants.{Accepted, Refused}
-use Rattle.policy.specs.Format.{answerOf, policyOf, blank, withAnswer, decodeOf}
+use Rattle.policy.specs.Format.{answer-of, policy-of, blank, with-answer, decode-of}
 use Rattle.policy.specs.Laws.{accepted}
 
 pub record Bounded (p : Policy) : Type 0 where
@@ -17,11 +17,11 @@ pub record Bounded (p : Policy) : Type 0 where
   pub count : p .count ≤ 64
   pub rules : p .rules ≤ 8
 
-pub bounded : (s : List ℕ) → Bounded (decodeOf s .policy)
-unfolding decodeOf blank
-bounded s = go (answerOf s) refl
+pub bounded : (s : List ℕ) → Bounded (decode-of s .policy)
+unfolding decode-of blank
+bounded s = go (answer-of s) refl
   where
-    go : (a : Answer) → answerOf s ≡ a → Bounded (withAnswer a (policyOf s) .policy)
+    go : (a : Answer) → answer-of s ≡ a → Bounded (with-answer a (policy-of s) .policy)
     go Accepted e =
         let p = accepted s e in
         record {

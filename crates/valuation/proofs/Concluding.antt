@@ -9,14 +9,14 @@ use mathlib.Core.Bool.{Bool, true, false, cond}
 use mathlib.Core.List.{List, _++_, append-assoc}
 use lib.ListN.{getD, length, take, drop, length-append, length-drop}
 use lib.Seq.{length-take-le, getD-take, getD-drop, take-at}
-use Rattle.kleene.specs.Truth.{true3, false3, unknown, codeOf}
+use Rattle.kleene.specs.Truth.{true3, false3, unknown, code-of}
 use Rattle.rows.specs.Over.{Over}
 use Rattle.rows.specs.Laws.{untouched, two}
 use Rattle.rows.specs.Grid.{table, table-length, table-at, row-of, place-of, in-grid, next-row}
 use Rattle.rows.specs.Parts.{put-in, from-front}
 use Rattle.policy.specs.declared.Policy.{Policy}
 use Rattle.policy.specs.declared.Sizes.{Sizes}
-use Rattle.policy.specs.Format.{noLine, ruleLines}
+use Rattle.policy.specs.Format.{no-line, rule-lines}
 use Rattle.policy.specs.Proper.{Proper}
 use Rattle.knowledge.specs.Knowledge.{Knowledge, is-point, is-none, point-known}
 use Rattle.valuation.specs.Sheets.{value, verdict, valuation-of, verdicts-of, standing}
@@ -32,12 +32,12 @@ verdict-cell p k i = verdict p k (i / p .sizes .minutes) (i % p .sizes .minutes)
 
 -- how many rules there are among the first lines
 abbrev pub before : Policy → ℕ → ℕ
-before p i = length (ruleLines (p .subformulas) i)
+before p i = length (rule-lines (p .subformulas) i)
 
-by-point : (z : Sizes) (k : Knowledge) (t c v : ℕ) → c ≡ codeOf (point-known z k t) → verdict-code c v ≡ cond (is-point z k t) v 0
+by-point : (z : Sizes) (k : Knowledge) (t c v : ℕ) → c ≡ code-of (point-known z k t) → verdict-code c v ≡ cond (is-point z k t) v 0
 by-point z k t c v e = ap (λ (n : ℕ). verdict-code n v) e ∙ go (is-point z k t) (is-none z k t)
   where
-    go : (a b : Bool) → verdict-code (codeOf (cond a true3 (cond b false3 unknown))) v ≡ cond a v 0
+    go : (a b : Bool) → verdict-code (code-of (cond a true3 (cond b false3 unknown))) v ≡ cond a v 0
     go true b = refl
     go false true = refl
     go false false = refl
@@ -52,7 +52,7 @@ pub record Concluded (p : Policy) (points valuation old : List ℕ) (i : ℕ) (n
   pub counted : total ≡ standing (take at new)
 
 pub none-yet : (p : Policy) (points valuation old : List ℕ) → Concluded p points valuation old 0 old 0 0
-unfolding ruleLines standing
+unfolding rule-lines standing
 none-yet p points valuation old =
     record {
       here = sym (zero-mul (p .sizes .minutes));
@@ -68,7 +68,7 @@ pub renamed : (p : Policy) (points valuation old new new′ : List ℕ) (i total
 renamed p points valuation old new new′ i total total′ at at′ a b d c = rw (a, b, d) c
 
 module _ (p : Policy) (points valuation old new : List ℕ) (i total at : ℕ) (c : Concluded p points valuation old i new total at) where
-  pub no-rule : getD (p .subformulas) i noLine .rule ≡ false → Concluded p points valuation old (i + 1) new total at
+  pub no-rule : getD (p .subformulas) i no-line .rule ≡ false → Concluded p points valuation old (i + 1) new total at
   no-rule e =
       record {
         here = rw (add-one, rule-skip (p .subformulas) i e) (c .here);
@@ -78,7 +78,7 @@ module _ (p : Policy) (points valuation old new : List ℕ) (i total at : ℕ) (
         counted = c .counted;
       }
 
-  module _ (proper : Proper p) (under : i < p .count) (is : getD (p .subformulas) i noLine .rule ≡ true) (room : p .rules * p .sizes .minutes ≤ length new) where
+  module _ (proper : Proper p) (under : i < p .count) (is : getD (p .subformulas) i no-line .rule ≡ true) (room : p .rules * p .sizes .minutes ≤ length new) where
     -- the rule's run is in the sheet
     pub rule-fits : at + p .sizes .minutes ≤ length new
     rule-fits =
@@ -99,7 +99,7 @@ module _ (p : Policy) (points valuation old new : List ℕ) (i total at : ℕ) (
       its-verdict k q v t h =
           let m = p .sizes .minutes in
           let in-all : i * m + t < p .count * m = in-grid (p .count) m i t under h in
-          let code : getD row t 0 ≡ codeOf (value p k i t) =
+          let code : getD row t 0 ≡ code-of (value p k i t) =
           ap (λ (l : List ℕ). getD l t 0) from
           ∙ getD-take m (drop (i * m) valuation) t 0 h
           ∙ getD-drop (i * m) valuation t 0
@@ -110,7 +110,7 @@ module _ (p : Policy) (points valuation old new : List ℕ) (i total at : ℕ) (
           w .written .inside t (omega arith) (omega (arith, part-length))
           ∙ by-point (p .sizes) k t (getD points t 0) (getD row t 0) (q t h)
           ∙ ap (λ (n : ℕ). cond (is-point (p .sizes) k t) n 0) code
-          ∙ ap (λ (l : ℕ). cond (is-point (p .sizes) k t) (codeOf (value p k l t)) 0) (sym (rule-at (p .subformulas) i (p .count) under is))
+          ∙ ap (λ (l : ℕ). cond (is-point (p .sizes) k t) (code-of (value p k l t)) 0) (sym (rule-at (p .subformulas) i (p .count) under is))
           ∙ ap₂ (λ (r s : ℕ). verdict p k r s) (sym (row-of m (before p i) t h)) (sym (place-of m (before p i) t h))
           ∙ ap (λ (n : ℕ). verdict-cell p k (n + t)) (sym (c .here))
 

@@ -4,17 +4,17 @@ use mathlib.Core.Path.{_≡_, refl, sym, ap, ap₂, _∙_}
 use mathlib.Core.Bool.{Bool, true, false}
 use mathlib.Core.List.{List}
 use lib.ListN.{getD, length, List·getD-eq-default}
-use Rattle.kleene.specs.Truth.{Truth, unknown, valueOf, and3}
+use Rattle.kleene.specs.Truth.{Truth, unknown, value-of, and3}
 use Rattle.kleene.specs.Rank.{rank-of}
 use Rattle.kleene.specs.Tests.{literal}
 use Rattle.valuation.specs.Rows.{Shows}
 use Rattle.valuation.specs.Indexes.{ranked}
 
 past : (l : List ℕ) (f : ℕ → Truth) → Shows l f → (i : ℕ) → length l ≤ i → f i ≡ unknown
-past l f S i h = sym (S i) ∙ ap valueOf (List·getD-eq-default l 0 h)
+past l f S i h = sym (S i) ∙ ap value-of (List·getD-eq-default l 0 h)
 
 module _ (negated : Bool) (p l : List ℕ) (e f : ℕ → Truth) (P : Shows p e) (L : Shows l f) where
-  pub ranked-at : (j : ℕ) → rank-of (and3 (valueOf (getD p j 0)) (literal negated (valueOf (getD l j 0)))) ≡ ranked negated e f j
+  pub ranked-at : (j : ℕ) → rank-of (and3 (value-of (getD p j 0)) (literal negated (value-of (getD l j 0)))) ≡ ranked negated e f j
   unfolding ranked
   ranked-at j = ap₂ (λ (x y : Truth). rank-of (and3 x (literal negated y))) (P j) (L j)
 

@@ -8,7 +8,7 @@ use mathlib.Core.List.{List, _++_}
 use lib.ListN.{getD, length, take, drop, length-append, length-take, length-drop, List·getD-eq-default}
 use lib.Seq.{length-take-le, getD-take, getD-drop, drop-drop}
 use borrow.Author.Tests.{lt-ltb, le-ltb}
-use Rattle.kleene.specs.Truth.{Truth, unknown, codeOf, valueOf, value-of-code}
+use Rattle.kleene.specs.Truth.{Truth, unknown, code-of, value-of, value-of-code}
 use Rattle.rows.specs.Over.{Over}
 use Rattle.rows.specs.Laws.{two}
 use Rattle.rows.specs.Grid.{row-of, place-of, next-row}
@@ -22,7 +22,7 @@ use Rattle.mtl.specs.Related.{operands-map}
 use Rattle.mtl.specs.Unroll.{unroll}
 use Rattle.policy.specs.declared.Sizes.{Sizes}
 use Rattle.policy.specs.declared.Policy.{Policy}
-use Rattle.policy.specs.Proper.{Proper, formulaAt}
+use Rattle.policy.specs.Proper.{Proper, formula-at}
 use Rattle.knowledge.specs.Knowledge.{Knowledge, point-known, world}
 use Rattle.valuation.specs.Sheets.{value}
 use Rattle.valuation.specs.Rows.{Shows, Row, run, Rows, Points, Workable}
@@ -46,32 +46,32 @@ module _ (z : Sizes) (k : Knowledge) where
   off-window t x h = rw (le-ltb t (z .minutes) h, seen) refl
 
   -- a list that holds f's codes in the window, and is no longer
-  pub shows : (l : List ℕ) (f : ℕ → Truth) → length l ≡ z .minutes → ((t : ℕ) → t < z .minutes → getD l t 0 ≡ codeOf (f t))
+  pub shows : (l : List ℕ) (f : ℕ → Truth) → length l ≡ z .minutes → ((t : ℕ) → t < z .minutes → getD l t 0 ≡ code-of (f t))
       → ((t : ℕ) → z .minutes ≤ t → f t ≡ unknown) → Shows l f
   shows l f e h o t = go (decLt t (z .minutes))
     where
-      go : Dec (t < z .minutes) → valueOf (getD l t 0) ≡ f t
-      go (yes w) = ap valueOf (h t w) ∙ value-of-code (f t)
-      go (no w) = ap valueOf (List·getD-eq-default l 0 (omega arith)) ∙ sym (o t (omega arith))
+      go : Dec (t < z .minutes) → value-of (getD l t 0) ≡ f t
+      go (yes w) = ap value-of (h t w) ∙ value-of-code (f t)
+      go (no w) = ap value-of (List·getD-eq-default l 0 (omega arith)) ∙ sym (o t (omega arith))
 
   pub points-show : (n : ℕ) (l : List ℕ) → n ≡ z .minutes → n ≤ length l → Points z k l → Shows (take n l) (point three (world z k))
   points-show n l e h p =
       shows (take n l) (point three (world z k)) (length-take-le n l h ∙ e)
-      (λ t w. getD-take n l t 0 (omega arith) ∙ p t w ∙ ap codeOf (sym (in-window t (point-known z k t) w)))
+      (λ t w. getD-take n l t 0 (omega arith) ∙ p t w ∙ ap code-of (sym (in-window t (point-known z k t) w)))
       (λ t w. off-window t (point-known z k t) w)
 
 -- ---- the rows of the work sheet
 
 -- the cell of the work sheet, laid out flat
 abbrev pub cell : Policy → Knowledge → ℕ → ℕ
-cell p k i = codeOf (value p k (i / p .sizes .minutes) (i % p .sizes .minutes))
+cell p k i = code-of (value p k (i / p .sizes .minutes) (i % p .sizes .minutes))
 
-pub cell-at : (p : Policy) (k : Knowledge) (i t : ℕ) → t < p .sizes .minutes → cell p k (i * p .sizes .minutes + t) ≡ codeOf (value p k i t)
-cell-at p k i t h = ap₂ (λ (a b : ℕ). codeOf (value p k a b)) (row-of (p .sizes .minutes) i t h) (place-of (p .sizes .minutes) i t h)
+pub cell-at : (p : Policy) (k : Knowledge) (i t : ℕ) → t < p .sizes .minutes → cell p k (i * p .sizes .minutes + t) ≡ code-of (value p k i t)
+cell-at p k i t h = ap₂ (λ (a b : ℕ). code-of (value p k a b)) (row-of (p .sizes .minutes) i t h) (place-of (p .sizes .minutes) i t h)
 
-module _ (p : Policy) (k : Knowledge) (earlier : Earlier (formulaAt p)) where
+module _ (p : Policy) (k : Knowledge) (earlier : Earlier (formula-at p)) where
   pub value-off : (i t : ℕ) → p .sizes .minutes ≤ t → value p k i t ≡ unknown
-  value-off i t h = unroll three (world (p .sizes) k) (formulaAt p) earlier i t ∙ off-window (p .sizes) k t _ h
+  value-off i t h = unroll three (world (p .sizes) k) (formula-at p) earlier i t ∙ off-window (p .sizes) k t _ h
 
   -- the rows that are written show their subformulas' values
   pub rows-show : (end : ℕ) (old new : List ℕ) → end ≤ length new → Over (cell p k) 0 end old new
@@ -91,11 +91,11 @@ module _ (p : Policy) (k : Knowledge) (earlier : Earlier (formulaAt p)) where
       (λ t w. value-off i t w)
 
   -- the row that was worked for subformula i holds its cells
-  pub row-cells : (i : ℕ) (r : List ℕ) → Row (p .sizes .minutes) (meaning three (world (p .sizes) k) (value p k) (formulaAt p i)) r
+  pub row-cells : (i : ℕ) (r : List ℕ) → Row (p .sizes .minutes) (meaning three (world (p .sizes) k) (value p k) (formula-at p i)) r
       → (t : ℕ) → t < p .sizes .minutes → getD r t 0 ≡ cell p k (i * p .sizes .minutes + t)
   row-cells i r w t h =
       w t h
-      ∙ ap codeOf (sym (unroll three (world (p .sizes) k) (formulaAt p) earlier i t ∙ in-window (p .sizes) k t _ h))
+      ∙ ap code-of (sym (unroll three (world (p .sizes) k) (formula-at p) earlier i t ∙ in-window (p .sizes) k t _ h))
       ∙ sym (cell-at p k i t h)
 
 -- ---- one row more
@@ -122,20 +122,20 @@ back-length at m xs ys h e =
 
 module _ (p : Policy) (proper : Proper p) (i : ℕ) (under : i < p .count) where
   pub workable : (points facts l : List ℕ) → length points ≡ 1024 → length facts ≡ 2 * p .sizes .minutes → length l ≡ i * p .sizes .minutes
-      → Workable (p .sizes) (formulaAt p i) points facts l
+      → Workable (p .sizes) (formula-at p i) points facts l
   workable points facts l a b e =
       record {
         minutes = proper .minutes .high;
         points = a;
         facts = b;
-        operands = operands-map (formulaAt p i) (λ j h. rw e (next-row i (p .sizes .minutes) j h)) (proper .earlier i);
-        proposes = proposes-more (p .sizes .propositions) 32 (formulaAt p i) (proper .propositions .high) (proper .proposes i);
+        operands = operands-map (formula-at p i) (λ j h. rw e (next-row i (p .sizes .minutes) j h)) (proper .earlier i);
+        proposes = proposes-more (p .sizes .propositions) 32 (formula-at p i) (proper .propositions .high) (proper .proposes i);
         bounded = proper .bounded i;
       }
 
   pub next : (k : Knowledge) (at : ℕ) (old new row part run : List ℕ) → at ≡ i * p .sizes .minutes → p .count * p .sizes .minutes ≤ length new
       → Over (cell p k) 0 at old new
-      → Row (p .sizes .minutes) (meaning three (world (p .sizes) k) (value p k) (formulaAt p i)) row
+      → Row (p .sizes .minutes) (meaning three (world (p .sizes) k) (value p k) (formula-at p i)) row
       → part ≡ take (p .sizes .minutes) (drop at new)
       → Over (λ t. getD row t 0) 0 (length part) part run
       → Over (cell p k) 0 (at + p .sizes .minutes) old (take at new ++ (run ++ drop (at + p .sizes .minutes) new))

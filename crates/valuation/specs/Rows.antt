@@ -3,7 +3,7 @@ use Prim.Native.Nat.{ℕ, _+_, _*_, _≤_, _<_}
 use mathlib.Core.Path.{_≡_}
 use mathlib.Core.List.{List}
 use lib.ListN.{getD, length, take, drop}
-use Rattle.kleene.specs.Truth.{Truth, codeOf, valueOf}
+use Rattle.kleene.specs.Truth.{Truth, code-of, value-of}
 use Rattle.mtl.specs.declared.Formula.{Formula}
 use Rattle.mtl.specs.Syntax.{Operands, Proposes, Bounded}
 use Rattle.policy.specs.declared.Sizes.{Sizes}
@@ -18,11 +18,11 @@ most-bound = 1023
 
 -- the codes stand for f's values, and past the end both are unknown
 abbrev pub Shows : List ℕ → (ℕ → Truth) → Type 0
-Shows l f = (t : ℕ) → valueOf (getD l t 0) ≡ f t
+Shows l f = (t : ℕ) → value-of (getD l t 0) ≡ f t
 
 -- the first m cells are the codes of f's values
 abbrev pub Row : ℕ → (ℕ → Truth) → List ℕ → Type 0
-Row m f r = (t : ℕ) → t < m → getD r t 0 ≡ codeOf (f t)
+Row m f r = (t : ℕ) → t < m → getD r t 0 ≡ code-of (f t)
 
 -- row i of those that stand one after another
 abbrev pub run : ℕ → List ℕ → ℕ → List ℕ
@@ -34,7 +34,7 @@ Rows m l v = (i : ℕ) → i * m + m ≤ length l → Shows (run m l i) (v i)
 
 -- the codes of "e(t)", as far as the window goes
 abbrev pub Points : Sizes → Knowledge → List ℕ → Type 0
-Points z k points = (t : ℕ) → t < z .minutes → getD points t 0 ≡ codeOf (point-known z k t)
+Points z k points = (t : ℕ) → t < z .minutes → getD points t 0 ≡ code-of (point-known z k t)
 
 -- what a subformula's row is worked from: its operands' rows are there, and its bounds are in range
 pub record Workable (z : Sizes) (φ : Formula) (p f l : List ℕ) : Type 0 where

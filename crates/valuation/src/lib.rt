@@ -13,7 +13,7 @@ ghost use mathlib.Core.List.{_++_};
 ghost use Prim.Native.Nat.{ℕ, _+_, _-_, _*_, _≤_, _<_};
 ghost use lib.ListN.{length, getD, take, drop};
 ghost use lib.Dec.{leb};
-ghost use Rattle.kleene.specs.Truth.{Truth, codeOf, true3, not3, or3};
+ghost use Rattle.kleene.specs.Truth.{Truth, code-of, true3, not3, or3};
 ghost use Rattle.kleene.specs.Rank.{rank-of};
 ghost use Rattle.rows.specs.Over.{Over};
 ghost use Rattle.mtl.specs.Algebra.{three};
@@ -55,7 +55,7 @@ fn note(nearest: Nearest, here: usize, rank: u8) -> Nearest
 
 // The code of a value that is surely true, or may be true.
 fn code(sure: bool, may: bool) -> u8
-    ensures { λ r. ⌜ ((x : Truth) → sure ≡ leb 2 (rank-of x) → may ≡ leb 1 (rank-of x) → r ≡ codeOf x) ⌝ }
+    ensures { λ r. ⌜ ((x : Truth) → sure ≡ leb 2 (rank-of x) → may ≡ leb 1 (rank-of x) → r ≡ code-of x) ⌝ }
 {
     if sure {
         return TRUE;
@@ -110,7 +110,7 @@ fn next_start(start: usize, t: usize, upper: usize) -> usize
 fn since_value(start: usize, begins: Nearest, breaks: Nearest) -> u8
     ensures { λ r. ⌜ ((w : World Truth) (α β : ℕ → Truth) (lower upper t : ℕ) → start ≡ t - upper
         → Lasts (begun (point three w) β) (t + 1 - lower) begins → Lasts (broken (point three w) α) (t + 1) breaks
-        → r ≡ codeOf (since three w α β lower upper t)) ⌝ }
+        → r ≡ code-of (since three w α β lower upper t)) ⌝ }
 {
     let sure = (start < begins.sure) & (breaks.may <= begins.sure);
     let may = (start < begins.may) & (breaks.sure <= begins.may);
@@ -169,7 +169,7 @@ fn until_begin(ranks: &[u8; MOST_MINUTES], minutes: usize, j: usize) -> u8
 fn until_value(end: usize, begins: Nearest, breaks: Nearest) -> u8
     ensures { λ r. ⌜ ((w : World Truth) (α β : ℕ → Truth) (lower upper t : ℕ) → end ≡ t + upper → end < far
         → Firsts (begun (point three w) β) (t + lower) begins → Firsts (broken (point three w) α) t breaks
-        → r ≡ codeOf (until three w α β lower upper t)) ⌝ }
+        → r ≡ code-of (until three w α β lower upper t)) ⌝ }
 {
     let sure = (begins.sure <= end) & (begins.sure <= breaks.may);
     let may = (begins.may <= end) & (begins.may <= breaks.sure);
@@ -233,7 +233,7 @@ pub fn true_row(minutes: usize, row: &mut [u8; MOST_MINUTES])
 fn fact_code(known: u32, values: u32, proposition: u8) -> u8
     requires { ⌜ proposition < 32 ⌝ }
     ensures { λ r. ⌜ ((k : Knowledge) (t : ℕ) → known ≡ getD (k .facts) (2 * t) 0 → values ≡ getD (k .facts) (2 * t + 1) 0
-        → r ≡ codeOf (fact k proposition t)) ⌝ }
+        → r ≡ code-of (fact k proposition t)) ⌝ }
 {
     let place = proposition as u32;
     if (known >> place) % 2 == 0 {

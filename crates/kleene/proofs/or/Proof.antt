@@ -1,6 +1,6 @@
 -- `kleene::or` meets its contract, by the table's rule at the two codes as indexes. Assumes nothing.
 use mathlib.Core.Path.{refl, ap₂, _∙_}
-use Rattle.kleene.specs.Truth.{Truth, codeOf, or3}
+use Rattle.kleene.specs.Truth.{Truth, code-of, or3}
 use Rattle.kleene.proofs.Table.{or-codes, or-rule}
 use borrow.Author.Needs.{needs}
 use Rattle.kleene.proofs.or.Statement.{statement}
@@ -26,7 +26,7 @@ returns c =
     let i = c .before .before .index in
     let j = c .before .index2 in
     or-rule or-codes refl (i .result) (j .result) (i .ensures .0) (j .ensures .0)
-    ∙ ap₂ (λ (v w : Truth). codeOf (or3 v w)) (i .ensures .1) (j .ensures .1)
+    ∙ ap₂ (λ (v w : Truth). code-of (or3 v w)) (i .ensures .1) (j .ensures .1)
 
 pub or-spec : {M : Type 1} → statement M
 or-spec =

@@ -4,14 +4,14 @@ use mathlib.Core.Path.{_≡_, ap₂, _∙_}
 use mathlib.Core.Bool.{Bool, false, not, _&&_, _||_}
 use lib.Dec.{eqb}
 use borrow.Author.Needs.{needs}
-use Rattle.kleene.specs.Truth.{Truth, valueOf, not3, or3}
+use Rattle.kleene.specs.Truth.{Truth, value-of, not3, or3}
 use Rattle.kleene.specs.Rank.{rank-of}
 use Rattle.kleene.specs.Tests.{known-code, literal, says, not-says, or-says, says-true, says-false, says-neither}
 use Rattle.kleene.proofs.rank_of_and.Statement.{statement}
 use Rattle.kleene.proofs.rank_of_and.Tie as tie
 
 abbrev either-not : Bool → ℕ → ℕ → Truth
-either-not negated x y = or3 (not3 (valueOf x)) (not3 (literal negated (valueOf y)))
+either-not negated x y = or3 (not3 (value-of x)) (not3 (literal negated (value-of y)))
 
 abbrev rank : Truth → ℕ
 rank v = rank-of (not3 v)

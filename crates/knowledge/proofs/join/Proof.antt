@@ -4,7 +4,7 @@ use mathlib.Core.Path.{subst, ap, _∙_}
 use Prim.Native.Nat.{ℕ, _-_, _≤_}
 use native.Mathlib.Omega.{arith}
 use denote.Ref.{now}
-use Rattle.kleene.specs.Truth.{codeOf, valueOf, or3}
+use Rattle.kleene.specs.Truth.{code-of, value-of, or3}
 use Rattle.rows.specs.Over.{Over}
 use Rattle.rows.specs.Laws.{untouched, one-more}
 use Rattle.knowledge.specs.Run.{joined}
@@ -12,7 +12,7 @@ use Rattle.knowledge.proofs.join.Statement.{statement}
 use Rattle.knowledge.proofs.join.Tie as tie
 
 abbrev Inv-loop : tie.InvT-loop
-Inv-loop row₀ lo hi code i₀ row i = (lo ≤ i) × (i ≤ hi) × Over (joined row₀ (λ _. valueOf code)) lo i row₀ row
+Inv-loop row₀ lo hi code i₀ row i = (lo ≤ i) × (i ≤ hi) × Over (joined row₀ (λ _. value-of code)) lo i row₀ row
 
 abbrev μ-loop : tie.MeasureT-loop
 μ-loop row₀ lo hi code i₀ row i = hi - i
@@ -44,14 +44,14 @@ loop-again c =
       omega arith,
       omega arith,
       one-more _ (x .lo) i (now (x .row)) (l .loop .row) (c .merge .result) over (omega arith) (omega (arith, over .long))
-          (c .merge .ensures ∙ ap (λ (y : ℕ). codeOf (or3 (valueOf y) (valueOf (x .code)))) (over .above i (omega arith))),
+          (c .merge .ensures ∙ ap (λ (y : ℕ). code-of (or3 (value-of y) (value-of (x .code)))) (over .above i (omega arith))),
     )
 
 returns : tie.Need-returns Inv-loop μ-loop
 returns c =
     let l = c .before in
     let x = l .before .args in
-    subst (λ (n : ℕ). Over (joined (now (x .row)) (λ _. valueOf (x .code))) (x .lo) n (now (x .row)) (l .loop .row)) (omega arith) (l .loop .inv .2)
+    subst (λ (n : ℕ). Over (joined (now (x .row)) (λ _. value-of (x .code))) (x .lo) n (now (x .row)) (l .loop .row)) (omega arith) (l .loop .inv .2)
 
 pub join-spec : {M : Type 1} → statement M
 join-spec =

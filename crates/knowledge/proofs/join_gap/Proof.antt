@@ -4,7 +4,7 @@ use Prim.Native.Nat.{ℕ, _+_}
 use native.Mathlib.Omega.{arith}
 use denote.Ref.{now}
 use lib.ListN.{set}
-use Rattle.kleene.specs.Truth.{valueOf}
+use Rattle.kleene.specs.Truth.{value-of}
 use Rattle.rows.specs.Over.{Over}
 use Rattle.rows.specs.Laws.{untouched, one-more}
 use borrow.Author.Needs.{needs}
@@ -30,7 +30,7 @@ returns c =
     let x = s .args in
     let old = now (x .row) in
     let one : x .hi ≡ x .lo + 1 = omega (arith, c .before .before .if1 .taken) in
-    subst (λ (n : ℕ). Over (joined old (λ _. valueOf (x .code))) (x .lo) n old (set old (x .lo) (c .merge .result))) (sym one)
+    subst (λ (n : ℕ). Over (joined old (λ _. value-of (x .code))) (x .lo) n old (set old (x .lo) (c .merge .result))) (sym one)
     (one-more _ (x .lo) (x .lo) old old (c .merge .result) (untouched _ (x .lo) old) (omega arith) (omega (arith, one)) (c .merge .ensures))
 
 join-requires : tie.Need-join-requires

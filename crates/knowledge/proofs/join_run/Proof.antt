@@ -5,7 +5,7 @@ use Prim.Native.Nat.{ℕ, suc, _+_, _-_, _<_}
 use native.Mathlib.Omega.{arith}
 use denote.Ref.{now}
 use lib.ListN.{length}
-use Rattle.kleene.specs.Truth.{codeOf, read-back}
+use Rattle.kleene.specs.Truth.{code-of, read-back}
 use Rattle.rows.specs.Over.{Over}
 use Rattle.rows.specs.Laws.{untouched}
 use Rattle.knowledge.specs.Knowledge.{most-minutes, none}
@@ -78,7 +78,7 @@ loop-again c =
           stretch f m (l .loop .p) (l .loop .q) (now (s .args .row)) (l .loop .row) _ (g .result) (v .3 m e) over (omega arith)
           (λ t from to.
           read-back (g .result) (told f m t)
-          (g .ensures ∙ ap codeOf (in-gap f m (l .loop .p) (l .loop .q) t (rw e (s .pre .2)) (v .0) (rw e (v .1)) from (rw e there) to))),
+          (g .ensures ∙ ap code-of (in-gap f m (l .loop .p) (l .loop .q) t (rw e (s .pre .2)) (v .0) (rw e (v .1)) from (rw e there) to))),
     )
 
 sub-join : tie.Need-sub-join Inv-loop μ-loop

@@ -6,7 +6,7 @@ use native.Mathlib.Omega.{arith}
 use mathlib.Core.List.{List}
 use denote.Ref.{now}
 use lib.ListN.{length, getD, length-replicate}
-use Rattle.kleene.specs.Truth.{codeOf}
+use Rattle.kleene.specs.Truth.{code-of}
 use Rattle.rows.specs.Laws.{zeros}
 use Rattle.knowledge.specs.Knowledge.{most-minutes}
 use Rattle.knowledge.proofs.Parts.{part-long, part-is-steady, part-told, one-run, room}
@@ -17,7 +17,7 @@ use Rattle.knowledge.proofs.point_row.Tie as tie
 abbrev Inv-loop : tie.InvT-loop
 Inv-loop numbers components minutes row₀ c₀ at₀ row c at =
     (c ≤ components) × (at ≡ c * suc minutes) × (length row ≡ most-minutes)
-    × ((t : ℕ) → t < minutes → getD row t 0 ≡ codeOf (points numbers minutes c t)) × ((t : ℕ) → minutes ≤ t → getD row t 0 ≡ 0)
+    × ((t : ℕ) → t < minutes → getD row t 0 ≡ code-of (points numbers minutes c t)) × ((t : ℕ) → minutes ≤ t → getD row t 0 ≡ 0)
 
 abbrev μ-loop : tie.MeasureT-loop
 μ-loop numbers components minutes row₀ c₀ at₀ row c at = components - c
@@ -119,9 +119,9 @@ returns c =
       long = l .loop .inv .2;
       inside = λ k f t h.
           l .loop .inv .3 t h
-          ∙ ap (λ (n : ℕ). codeOf (points numbers (z .minutes) n t)) e
-          ∙ ap (λ (y : List ℕ). codeOf (points y (z .minutes) (z .components) t)) (sym f)
-          ∙ ap codeOf (all-points z k t);
+          ∙ ap (λ (n : ℕ). code-of (points numbers (z .minutes) n t)) e
+          ∙ ap (λ (y : List ℕ). code-of (points y (z .minutes) (z .components) t)) (sym f)
+          ∙ ap code-of (all-points z k t);
       past = l .loop .inv .4;
     }
 

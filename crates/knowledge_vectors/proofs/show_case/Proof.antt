@@ -8,7 +8,7 @@ use borrow.Author.Tests.{not-false}
 use Rattle.policy.specs.declared.Sizes.{Sizes}
 use Rattle.refusal.specs.declared.Answer.the-variants.{Accepted}
 use Rattle.message.specs.declared.Decoded.{Decoded}
-use Rattle.message.specs.Format.{decodeOf}
+use Rattle.message.specs.Format.{decode-of}
 use Rattle.message.specs.Fixes.{Fits, Well-formed}
 use Rattle.message.specs.Laws.{fits, decoded, decoded-answer}
 use Rattle.knowledge.specs.Laws.{Limits, sound-law}
@@ -18,7 +18,7 @@ use borrow.Author.Needs.{needs}
 use Rattle.knowledge_vectors.proofs.show_case.Statement.{statement}
 use Rattle.knowledge_vectors.proofs.show_case.Tie as tie
 
-accepted-fits : (z : Sizes) → Limits z → (s : List ℕ) (d : Decoded) → d ≡ decodeOf z s → d .answer ≡ Accepted → Fits z (sent (d .component) (d .event))
+accepted-fits : (z : Sizes) → Limits z → (s : List ℕ) (d : Decoded) → d ≡ decode-of z s → d .answer ≡ Accepted → Fits z (sent (d .component) (d .event))
 accepted-fits z l s d e a =
     let w : Well-formed z s = sym (decoded-answer z s) ∙ ap (λ (x : Decoded). x .answer) (sym e) ∙ a in
     subst (λ (x : Decoded). Fits z (sent (x .component) (x .event))) (sym (e ∙ decoded z s w)) (fits z (l .propositions-most) s w)

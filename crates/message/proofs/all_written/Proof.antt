@@ -1,5 +1,5 @@
--- The tests are the conjuncts of `allWritten`, in its order; each bit of the map is the one that the definition names. Assumes nothing.
-use Rattle.message.specs.Format.{allWritten}
+-- The tests are the conjuncts of `all-written`, in its order; each bit of the map is the one that the definition names. Assumes nothing.
+use Rattle.message.specs.Format.{all-written}
 use borrow.Author.Needs.{needs}
 use Rattle.message.proofs.all_written.Statement.{statement}
 use Rattle.message.proofs.all_written.Tie as tie
@@ -38,7 +38,7 @@ is-written-requires-4 : tie.Need-is-written-requires-4
 is-written-requires-4 c κs = search needs
 
 returns : tie.Need-returns
-unfolding allWritten
+unfolding all-written
 returns c =
     rw (
       c .before .before .before .before .before .before .before .before .is-written .ensures,

@@ -4,7 +4,7 @@ use Prim.Native.Nat.{ℕ}
 use native.Mathlib.Omega.{arith}
 use borrow.Author.Tests.{not-true, not-false}
 use Rattle.refusal.specs.declared.Refusal.the-variants.{TruncatedMessage}
-use Rattle.message.specs.Format.{goodFields, refusedWith}
+use Rattle.message.specs.Format.{good-fields, refused-with}
 use Rattle.message.specs.Reads.{refuses, takes}
 use Rattle.message.specs.Laws.{refused-cut, decodes}
 use Rattle.message.specs.Proper.{early, extra}
@@ -33,7 +33,7 @@ returns c =
     let a = c .before .before .before .before .before .before .before .args in
     let s = a .s .now in
     let t = told s (c .before .before .before .before .before .measure .ensures) (c .before .before .before .whole .given .1) in
-    c .refused2 .ensures ∙ ap (λ (n : ℕ). refusedWith (TruncatedMessage n)) (t .0) ∙ sym (decodes (a .sizes) s _ (refused-cut (a .sizes) s _ (extra (omega arith))))
+    c .refused2 .ensures ∙ ap (λ (n : ℕ). refused-with (TruncatedMessage n)) (t .0) ∙ sym (decodes (a .sizes) s _ (refused-cut (a .sizes) s _ (extra (omega arith))))
 
 fields-of-requires : tie.Need-fields-of-requires
 fields-of-requires c κs =
@@ -53,7 +53,7 @@ returns-2 c =
     let a = c .before .before .before .before .before .before .before .before .before .before .args in
     let s = a .s .now in
     let t = told s (c .before .before .before .before .before .before .before .before .measure .ensures) (c .before .before .before .before .before .before .whole .given .1) in
-    c .refused3 .ensures ∙ sym (decodes (a .sizes) s _ (refuses (a .sizes) s (omega arith) (ap (goodFields (a .sizes)) (sym (c .before .before .before .fields-of .ensures)) ∙ sym (c .before .before .good-fields .ensures) ∙ not-true _ (c .before .if2 .taken))))
+    c .refused3 .ensures ∙ sym (decodes (a .sizes) s _ (refuses (a .sizes) s (omega arith) (ap (good-fields (a .sizes)) (sym (c .before .before .before .fields-of .ensures)) ∙ sym (c .before .before .good-fields .ensures) ∙ not-true _ (c .before .if2 .taken))))
 
 event-in-requires : tie.Need-event-in-requires
 event-in-requires c κs = search needs
@@ -73,7 +73,7 @@ returns-4 c =
     let a = c .before .before .before .before .before .before .before .before .before .before .before .args in
     let s = a .s .now in
     let t = told s (c .before .before .before .before .before .before .before .before .before .measure .ensures) (c .before .before .before .before .before .before .before .whole .given .1) in
-    accepted (c .before .event-in .ensures) (c .before .before .before .before .fields-of .ensures) ∙ sym (decodes (a .sizes) s _ (takes (a .sizes) s (omega arith) (ap (goodFields (a .sizes)) (sym (c .before .before .before .before .fields-of .ensures)) ∙ sym (c .before .before .before .good-fields .ensures) ∙ not-false _ (c .before .before .if2 .left))))
+    accepted (c .before .event-in .ensures) (c .before .before .before .before .fields-of .ensures) ∙ sym (decodes (a .sizes) s _ (takes (a .sizes) s (omega arith) (ap (good-fields (a .sizes)) (sym (c .before .before .before .before .fields-of .ensures)) ∙ sym (c .before .before .before .good-fields .ensures) ∙ not-false _ (c .before .before .if2 .left))))
 
 pub decode-spec : {M : Type 1} → statement M
 decode-spec =

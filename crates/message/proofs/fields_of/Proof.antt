@@ -1,5 +1,5 @@
 -- In a whole message every field that its map writes lies inside (`Inside`), and each is read at its own place. Assumes nothing.
-use Rattle.message.specs.Format.{fieldsOf, componentOf, minuteOf, numberOf, packedOf}
+use Rattle.message.specs.Format.{fields-of, component-of, minute-of, number-of, packed-of}
 use Rattle.message.proofs.Reading.{inside, named-found}
 use borrow.Author.Needs.{needs}
 use Rattle.message.proofs.fields_of.Statement.{statement}
@@ -55,7 +55,7 @@ packed-at-requires c κs =
     rw (c .values-at .ensures .0, c .before .value-bytes .ensures .0, named) (inside s (a .pre) .values-in)
 
 returns : tie.Need-returns
-unfolding fieldsOf componentOf minuteOf numberOf packedOf
+unfolding fields-of component-of minute-of number-of packed-of
 returns c =
     let s = c .before .before .before .before .before .before .before .before .before .before .before .before .before .before .before .before .args .s .now in
     let named = named-found s (c .before .before .before .read32 .ensures) (c .before .before .before .before .before .has4 .ensures) (c .before .before .before .before .named-at .ensures .0) in

@@ -1,6 +1,6 @@
--- The tests are the conjuncts of `goodAlive`. Assumes nothing.
+-- The tests are the conjuncts of `good-alive`. Assumes nothing.
 use mathlib.Core.Path.{refl}
-use Rattle.message.specs.Format.{goodAlive}
+use Rattle.message.specs.Format.{good-alive}
 use borrow.Author.Needs.{needs}
 use Rattle.message.proofs.good_alive.Statement.{statement}
 use Rattle.message.proofs.good_alive.Tie as tie
@@ -9,7 +9,7 @@ cast-result : tie.Need-cast-result
 cast-result c = search needs
 
 returns : tie.Need-returns
-unfolding goodAlive
+unfolding good-alive
 returns c = refl
 
 pub good-alive-spec : {M : Type 1} → statement M

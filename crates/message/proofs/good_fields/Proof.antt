@@ -1,5 +1,5 @@
--- The tests are the conjuncts of `goodFields`, in its order. Assumes nothing.
-use Rattle.message.specs.Format.{goodFields}
+-- The tests are the conjuncts of `good-fields`, in its order. Assumes nothing.
+use Rattle.message.specs.Format.{good-fields}
 use borrow.Author.Needs.{needs}
 use Rattle.message.proofs.good_fields.Statement.{statement}
 use Rattle.message.proofs.good_fields.Tie as tie
@@ -14,7 +14,7 @@ cast-result : tie.Need-cast-result
 cast-result c = search needs
 
 returns : tie.Need-returns
-unfolding goodFields
+unfolding good-fields
 returns c = rw (c .before .before .before .before .all-written .ensures, c .before .before .before .good-event .ensures)
 
 pub good-fields-spec : {M : Type 1} → statement M

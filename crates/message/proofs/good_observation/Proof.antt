@@ -1,5 +1,5 @@
--- The tests are the conjuncts of `goodObservation`, in its order. Assumes nothing.
-use Rattle.message.specs.Format.{goodObservation}
+-- The tests are the conjuncts of `good-observation`, in its order. Assumes nothing.
+use Rattle.message.specs.Format.{good-observation}
 use borrow.Author.Needs.{needs}
 use Rattle.message.proofs.good_observation.Statement.{statement}
 use Rattle.message.proofs.good_observation.Tie as tie
@@ -17,7 +17,7 @@ cast-result : tie.Need-cast-result
 cast-result c = search needs
 
 returns : tie.Need-returns
-unfolding goodObservation
+unfolding good-observation
 returns c = rw (c .before .before .before .before .before .fits-below .ensures, c .before .before .before .fits-below2 .ensures, c .before .before .before .before .count .ensures .0)
 
 pub good-observation-spec : {M : Type 1} → statement M

@@ -3,7 +3,7 @@
 use mathlib.Core.Path.{sym, _∙_}
 use borrow.Author.Tests.{not-true, not-false}
 use Rattle.monitor.specs.State.{lent}
-use Rattle.monitor.specs.Laws.{long-of}
+use Rattle.monitor.specs.Laws.{knowledge-sized}
 use Rattle.monitor.proofs.Settling.{limits}
 use Rattle.monitor.proofs.Calls.{hear, heard-fits, message-answered, message-refused, message-conflict, message-taken}
 use borrow.Author.Needs.{needs}
@@ -29,7 +29,7 @@ admits-message-requires c κs =
     let s = c .before .before .before .before .before .before .before .before .before .before .before in
     let a = s .args in
     let h = hear (a .policy .sizes) (a .message .now) _ (c .before .before .before .before .decode .ensures) (c .before .before .enum-told .given .1) in
-    (limits (a .policy) (s .pre .0), long-of (a .policy) (lent (a .numbers .now) (a .facts .now) (a .valuation .now) (a .verdicts .now)) (s .pre .1), s .pre .2, heard-fits (a .policy) (s .pre .0) (a .message .now) _ _ h)
+    (limits (a .policy) (s .pre .0), knowledge-sized (a .policy) (lent (a .numbers .now) (a .facts .now) (a .valuation .now) (a .verdicts .now)) (s .pre .1), s .pre .2, heard-fits (a .policy) (s .pre .0) (a .message .now) _ _ h)
 
 same-length : tie.Need-same-length
 same-length c = search needs

@@ -1,4 +1,4 @@
--- Each way out is one check of `answerOf`, with the checks before it passed. Assumes nothing.
+-- Each way out is one check of `answer-of`, with the checks before it passed. Assumes nothing.
 use Rattle.policy.proofs.Decoding.{refuses}
 use Rattle.policy.specs.Causes.{no-heading, in-heading}
 use Rattle.refusal.specs.Laws.{refusal-law}

@@ -1,4 +1,4 @@
--- The lines answer, and then the closing checks; where both accept, the fields are those of `policyOf`. Assumes nothing.
+-- The lines answer, and then the closing checks; where both accept, the fields are those of `policy-of`. Assumes nothing.
 use Rattle.policy.proofs.Decoding.{refuses, accepts, line-refused, closing-refused, all-passed}
 use Rattle.refusal.specs.Laws.{passing-law}
 use Rattle.policy.specs.Causes.{headed}

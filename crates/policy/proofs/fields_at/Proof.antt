@@ -1,12 +1,12 @@
 -- Each field starts where the sizes before it add up to, and the whole line is inside the bytes. Assumes nothing.
 use native.Mathlib.Omega.{arith}
-use Rattle.policy.specs.Format.{lineLength, fieldsAt}
+use Rattle.policy.specs.Format.{line-length, fields-at}
 use borrow.Author.Needs.{needs}
 use Rattle.policy.proofs.fields_at.Statement.{statement}
 use Rattle.policy.proofs.fields_at.Tie as tie
 
 shared-slice-read-map : tie.Need-shared-slice-read-map
-unfolding lineLength
+unfolding line-length
 shared-slice-read-map c = omega arith
 
 add-first : tie.Need-add-first
@@ -43,39 +43,39 @@ add-read8 : tie.Need-add-read8
 add-read8 c = search needs
 
 read8-requires : tie.Need-read8-requires
-unfolding lineLength
+unfolding line-length
 read8-requires c κs = rw (c .has .ensures) (omega arith)
 
 has-requires-2 : tie.Need-has-requires-2
 has-requires-2 c κs = search needs
 
 read8-requires-2 : tie.Need-read8-requires-2
-unfolding lineLength
+unfolding line-length
 read8-requires-2 c κs = rw (c .has2 .ensures) (omega arith)
 
 has-requires-3 : tie.Need-has-requires-3
 has-requires-3 c κs = search needs
 
 read8-requires-3 : tie.Need-read8-requires-3
-unfolding lineLength
+unfolding line-length
 read8-requires-3 c κs = rw (c .has3 .ensures) (omega arith)
 
 has-requires-4 : tie.Need-has-requires-4
 has-requires-4 c κs = search needs
 
 read16-requires : tie.Need-read16-requires
-unfolding lineLength
+unfolding line-length
 read16-requires c κs = rw (c .has4 .ensures) (omega arith)
 
 has-requires-5 : tie.Need-has-requires-5
 has-requires-5 c κs = search needs
 
 read16-requires-2 : tie.Need-read16-requires-2
-unfolding lineLength
+unfolding line-length
 read16-requires-2 c κs = rw (c .has5 .ensures) (omega arith)
 
 returns : tie.Need-returns
-unfolding fieldsAt
+unfolding fields-at
 returns c = let upper = c .before in
     let lower = upper .before .before in
     let second = lower .before .before in

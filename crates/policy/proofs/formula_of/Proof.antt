@@ -3,32 +3,32 @@ use native.Mathlib.Omega.{arith}
 use Prim.Native.Nat.{ℕ}
 use mathlib.Core.Path.{sym, ap}
 use Rattle.policy.proofs.Line.{is-until}
-use Rattle.policy.specs.Format.{meaning, formulaOf}
+use Rattle.policy.specs.Format.{meaning, formula-of}
 use Rattle.policy.proofs.formula_of.Statement.{statement}
 use Rattle.policy.proofs.formula_of.Tie as tie
 
 returns : tie.Need-returns
-unfolding formulaOf meaning
+unfolding formula-of meaning
 returns c = sym (ap (λ (k : ℕ). let f = c .before .args .fields in meaning k (f .first) (f .second) (f .lower) (f .upper)) (c .if1 .taken))
 
 returns-2 : tie.Need-returns-2
-unfolding formulaOf meaning
+unfolding formula-of meaning
 returns-2 c = sym (ap (λ (k : ℕ). let f = c .before .before .args .fields in meaning k (f .first) (f .second) (f .lower) (f .upper)) (c .if2 .taken))
 
 returns-3 : tie.Need-returns-3
-unfolding formulaOf meaning
+unfolding formula-of meaning
 returns-3 c = sym (ap (λ (k : ℕ). let f = c .before .before .before .args .fields in meaning k (f .first) (f .second) (f .lower) (f .upper)) (c .if3 .taken))
 
 returns-4 : tie.Need-returns-4
-unfolding formulaOf meaning
+unfolding formula-of meaning
 returns-4 c = sym (ap (λ (k : ℕ). let f = c .before .before .before .before .args .fields in meaning k (f .first) (f .second) (f .lower) (f .upper)) (c .if4 .taken))
 
 returns-5 : tie.Need-returns-5
-unfolding formulaOf meaning
+unfolding formula-of meaning
 returns-5 c = sym (ap (λ (k : ℕ). let f = c .before .before .before .before .before .args .fields in meaning k (f .first) (f .second) (f .lower) (f .upper)) (c .if5 .taken))
 
 returns-6 : tie.Need-returns-6
-unfolding formulaOf
+unfolding formula-of
 returns-6 c = let f = c .before .before .before .before .before .args .fields in
     sym (is-until (f .kind) (f .first) (f .second) (f .lower) (f .upper) (omega arith))
 

@@ -1,9 +1,9 @@
--- The tests are the conjuncts of `goodLine`, in its order. Assumes nothing.
+-- The tests are the conjuncts of `good-line`, in its order. Assumes nothing.
 use lib.Dec.{ltb, leb}
 use mathlib.Core.Bool.{_&&_}
 use borrow.Author.Needs.{needs}
 use Rattle.policy.proofs.Line.{both}
-use Rattle.policy.specs.Format.{goodLine}
+use Rattle.policy.specs.Format.{good-line}
 use mathlib.Core.Path.{refl}
 use Rattle.policy.proofs.good_line.Statement.{statement}
 use Rattle.policy.proofs.good_line.Tie as tie
@@ -42,7 +42,7 @@ keeps-kind-requires : tie.Need-keeps-kind-requires
 keeps-kind-requires c κs = search needs
 
 returns : tie.Need-returns
-unfolding goodLine
+unfolding good-line
 returns c = let f = c .before .before .before .before .before .before .before .before .before .before .before .before .before .args .fields in
     both {a = ltb (f .map) 64} refl
     (both (c .before .before .before .before .before .before .before .before .before .before .before .field-good .ensures)

@@ -1,6 +1,6 @@
 -- A kind past the table has no row; else the row is read, and the two tests are asked of it. Assumes nothing.
 use borrow.Author.Tests.{lt-ltb, le-ltb}
-use Rattle.policy.specs.Format.{keepsKind}
+use Rattle.policy.specs.Format.{keeps-kind}
 use borrow.Author.Needs.{needs}
 use Rattle.policy.proofs.keeps_kind.Statement.{statement}
 use Rattle.policy.proofs.keeps_kind.Tie as tie
@@ -9,7 +9,7 @@ cast-kind : tie.Need-cast-kind
 cast-kind c = search needs
 
 returns : tie.Need-returns
-unfolding keepsKind
+unfolding keeps-kind
 returns c = rw (le-ltb _ _ (c .if1 .taken))
 
 mul-row : tie.Need-mul-row
@@ -31,7 +31,7 @@ operands-good-requires : tie.Need-operands-good-requires
 operands-good-requires c κs = search needs
 
 returns-2 : tie.Need-returns-2
-unfolding keepsKind
+unfolding keeps-kind
 returns-2 c = rw (lt-ltb _ _ (c .before .before .before .before .before .if1 .left), c .before .before .before .is-allowed .ensures, c .operands-good .ensures)
 
 pub keeps-kind-spec : {M : Type 1} → statement M

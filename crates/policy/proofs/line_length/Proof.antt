@@ -1,6 +1,6 @@
 -- The sum of the sizes is the definition, and each size has its bound. Assumes nothing.
 use native.Mathlib.Omega.{arith}
-use Rattle.policy.specs.Format.{lineLength}
+use Rattle.policy.specs.Format.{line-length}
 use borrow.Author.Needs.{needs}
 use Rattle.policy.proofs.line_length.Statement.{statement}
 use Rattle.policy.proofs.line_length.Tie as tie
@@ -36,7 +36,7 @@ add-result-5 : tie.Need-add-result-5
 add-result-5 c = search needs
 
 returns : tie.Need-returns
-unfolding lineLength
+unfolding line-length
 returns c = omega arith
 
 pub line-length-spec : {M : Type 1} → statement M

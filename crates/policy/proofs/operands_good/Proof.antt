@@ -1,4 +1,4 @@
--- One test for each row of `operandsGood`. Assumes nothing.
+-- One test for each row of `operands-good`. Assumes nothing.
 use borrow.Author.Needs.{needs}
 use Rattle.policy.proofs.operands_good.Statement.{statement}
 use Rattle.policy.proofs.operands_good.Tie as tie

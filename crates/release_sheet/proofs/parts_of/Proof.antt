@@ -7,12 +7,12 @@ use native.Mathlib.Nat.{mul-le-mul}
 use native.Mathlib.Omega.{arith}
 use borrow.Author.Needs.{needs}
 use Rattle.policy.specs.declared.Decoded.{Decoded}
-use Rattle.policy.specs.Format.{decodeOf}
+use Rattle.policy.specs.Format.{decode-of}
 use Rattle.release_sheet.proofs.Bounded.{Bounded, bounded}
 use Rattle.release_sheet.proofs.parts_of.Statement.{statement}
 use Rattle.release_sheet.proofs.parts_of.Tie as tie
 
-known : (s : List ℕ) (d : Decoded) → d ≡ decodeOf s → Bounded (d .policy)
+known : (s : List ℕ) (d : Decoded) → d ≡ decode-of s → Bounded (d .policy)
 known s d e = subst (λ (d : Decoded). Bounded (d .policy)) (sym e) (bounded s)
 
 decode-requires : tie.Need-decode-requires

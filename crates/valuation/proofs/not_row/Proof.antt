@@ -5,14 +5,14 @@ use Prim.Native.Nat.{ℕ, _-_, _≤_}
 use native.Mathlib.Omega.{arith}
 use denote.Ref.{now}
 use lib.ListN.{length, getD}
-use Rattle.kleene.specs.Truth.{Truth, codeOf, valueOf, not3}
+use Rattle.kleene.specs.Truth.{Truth, code-of, value-of, not3}
 use Rattle.rows.specs.Over.{Over}
 use Rattle.rows.specs.Laws.{untouched, one-more}
 use Rattle.valuation.proofs.not_row.Statement.{statement}
 use Rattle.valuation.proofs.not_row.Tie as tie
 
 abbrev of : List ℕ → ℕ → ℕ
-of operand s = codeOf (not3 (valueOf (getD operand s 0)))
+of operand s = code-of (not3 (value-of (getD operand s 0)))
 
 abbrev Inv-loop : tie.InvT-loop
 Inv-loop operand row₀ t₀ row t = (t ≤ length operand) × Over (of operand) 0 t row₀ row
@@ -57,7 +57,7 @@ returns c =
     let l = c .before in
     let s = l .before .before in
     let all = l .loop .inv .1 in
-    (all .long ∙ s .pre .1, λ f P t h. all .inside t (omega arith) (omega arith) ∙ ap (λ (v : Truth). codeOf (not3 v)) (P t))
+    (all .long ∙ s .pre .1, λ f P t h. all .inside t (omega arith) (omega arith) ∙ ap (λ (v : Truth). code-of (not3 v)) (P t))
 
 pub not-row-spec : {M : Type 1} → statement M
 not-row-spec =

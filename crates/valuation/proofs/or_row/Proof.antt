@@ -5,14 +5,14 @@ use Prim.Native.Nat.{ℕ, _-_, _≤_}
 use native.Mathlib.Omega.{arith}
 use denote.Ref.{now}
 use lib.ListN.{length, getD}
-use Rattle.kleene.specs.Truth.{Truth, codeOf, valueOf, or3}
+use Rattle.kleene.specs.Truth.{Truth, code-of, value-of, or3}
 use Rattle.rows.specs.Over.{Over}
 use Rattle.rows.specs.Laws.{untouched, one-more}
 use Rattle.valuation.proofs.or_row.Statement.{statement}
 use Rattle.valuation.proofs.or_row.Tie as tie
 
 abbrev of : List ℕ → List ℕ → ℕ → ℕ
-of left right s = codeOf (or3 (valueOf (getD left s 0)) (valueOf (getD right s 0)))
+of left right s = code-of (or3 (value-of (getD left s 0)) (value-of (getD right s 0)))
 
 abbrev Inv-loop : tie.InvT-loop
 Inv-loop left right row₀ table t₀ row t = (t ≤ length left) × Over (of left right) 0 t row₀ row
@@ -69,7 +69,7 @@ loop-again c =
     let j = c .before .index2 in
     let entry =
     l .before .or-table .ensures (i .result) (j .result) (i .ensures .0) (j .ensures .0)
-    ∙ ap₂ (λ (v w : Truth). codeOf (or3 v w)) (i .ensures .1) (j .ensures .1) in (
+    ∙ ap₂ (λ (v w : Truth). code-of (or3 v w)) (i .ensures .1) (j .ensures .1) in (
       omega arith,
       one-more (of (now (x .left)) (now (x .right))) 0 (l .loop .t) (now (x .row)) (l .loop .row) _ old
           (omega arith) (omega (arith, old .long)) entry,
@@ -80,7 +80,7 @@ returns c =
     let l = c .before in
     let s = l .before .before .before .before in
     let all = l .loop .inv .1 in
-    (all .long ∙ s .pre .2, λ f g P Q t h. all .inside t (omega arith) (omega arith) ∙ ap₂ (λ (v w : Truth). codeOf (or3 v w)) (P t) (Q t))
+    (all .long ∙ s .pre .2, λ f g P Q t h. all .inside t (omega arith) (omega arith) ∙ ap₂ (λ (v w : Truth). code-of (or3 v w)) (P t) (Q t))
 
 pub or-row-spec : {M : Type 1} → statement M
 or-row-spec =

@@ -5,7 +5,7 @@ use Prim.Native.Nat.{ℕ, _+_, _-_, _*_, _≤_}
 use native.Mathlib.Omega.{arith}
 use denote.Ref.{now}
 use lib.ListN.{length, getD, length-set}
-use Rattle.kleene.specs.Truth.{codeOf}
+use Rattle.kleene.specs.Truth.{code-of}
 use Rattle.rows.specs.Over.{Over}
 use Rattle.rows.specs.Laws.{untouched, one-more}
 use Rattle.knowledge.specs.Knowledge.{Knowledge, fact}
@@ -15,7 +15,7 @@ use Rattle.valuation.proofs.proposition_row.Tie as tie
 abbrev Inv-loop : tie.InvT-loop
 Inv-loop facts proposition minutes row₀ t₀ row t =
     (t ≤ minutes) × (length row ≡ length row₀)
-    × ((k : Knowledge) → k .facts ≡ facts → Over (λ s. codeOf (fact k proposition s)) 0 t row₀ row)
+    × ((k : Knowledge) → k .facts ≡ facts → Over (λ s. code-of (fact k proposition s)) 0 t row₀ row)
 
 abbrev μ-loop : tie.MeasureT-loop
 μ-loop facts proposition minutes row₀ t₀ row t = minutes - t
@@ -23,7 +23,7 @@ abbrev μ-loop : tie.MeasureT-loop
 loop-holds : tie.Need-loop-holds Inv-loop μ-loop
 loop-holds c =
     let x = c .before .args in
-    (omega arith, refl, λ k e. untouched (λ s. codeOf (fact k (x .proposition) s)) 0 (now (x .row)))
+    (omega arith, refl, λ k e. untouched (λ s. code-of (fact k (x .proposition) s)) 0 (now (x .row)))
 
 mul-at : tie.Need-mul-at Inv-loop μ-loop
 mul-at c = omega arith
@@ -64,7 +64,7 @@ loop-again c =
       length-set (l .loop .row) t (c .fact-code .result) ∙ l .loop .inv .1,
       λ k e.
           let old = l .loop .inv .2 k e in
-          one-more (λ s. codeOf (fact k (x .proposition) s)) 0 t (now (x .row)) (l .loop .row) (c .fact-code .result) old (omega arith) (omega (arith, old .long))
+          one-more (λ s. code-of (fact k (x .proposition) s)) 0 t (now (x .row)) (l .loop .row) (c .fact-code .result) old (omega arith) (omega (arith, old .long))
           (c .fact-code .ensures k t (ap (λ (s : List ℕ). getD s (2 * t) 0) (sym e)) (ap (λ (s : List ℕ). getD s (2 * t + 1) 0) (sym e))),
     )
 

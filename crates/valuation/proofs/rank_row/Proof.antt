@@ -6,7 +6,7 @@ use Prim.Native.Nat.{ℕ, _-_, _≤_}
 use native.Mathlib.Omega.{arith}
 use denote.Ref.{now}
 use lib.ListN.{length, getD}
-use Rattle.kleene.specs.Truth.{valueOf, and3}
+use Rattle.kleene.specs.Truth.{value-of, and3}
 use Rattle.kleene.specs.Rank.{rank-of}
 use Rattle.kleene.specs.Tests.{literal}
 use Rattle.rows.specs.Over.{Over}
@@ -16,7 +16,7 @@ use Rattle.valuation.proofs.rank_row.Statement.{statement}
 use Rattle.valuation.proofs.rank_row.Tie as tie
 
 abbrev of : List ℕ → List ℕ → Bool → ℕ → ℕ
-of points operand negated s = rank-of (and3 (valueOf (getD points s 0)) (literal negated (valueOf (getD operand s 0))))
+of points operand negated s = rank-of (and3 (value-of (getD points s 0)) (literal negated (value-of (getD operand s 0))))
 
 abbrev Inv-loop : tie.InvT-loop
 Inv-loop points operand negated ranks₀ t₀ ranks t = (t ≤ length points) × Over (of points operand negated) 0 t ranks₀ ranks

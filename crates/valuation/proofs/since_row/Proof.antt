@@ -5,7 +5,7 @@ use Prim.Native.Nat.{ℕ, _+_, _-_, _≤_, _<_}
 use native.Mathlib.Omega.{arith}
 use denote.Ref.{now}
 use lib.ListN.{length, length-set}
-use Rattle.kleene.specs.Truth.{Truth, codeOf}
+use Rattle.kleene.specs.Truth.{Truth, code-of}
 use Rattle.rows.specs.Over.{Over}
 use Rattle.rows.specs.Laws.{untouched, one-more}
 use Rattle.mtl.specs.Algebra.{three}
@@ -21,7 +21,7 @@ Inv-loop points left right lower upper ranks row₀ begins₀ breaks₀ start₀
     (t ≤ length points) × (length row ≡ 1024) × (start ≡ t - upper)
     × ((w : World Truth) (α β : ℕ → Truth) → Shows points (point three w) → Shows left α → Shows right β
     → Lasts (begun (point three w) β) (t - lower) begins × Lasts (broken (point three w) α) t breaks
-    × Over (λ s. codeOf (since three w α β lower upper s)) 0 t row₀ row)
+    × Over (λ s. code-of (since three w α β lower upper s)) 0 t row₀ row)
 
 abbrev μ-loop : tie.MeasureT-loop
 μ-loop points left right lower upper ranks row₀ begins₀ breaks₀ start₀ t₀ row begins breaks start t = length points - t
@@ -41,7 +41,7 @@ loop-holds c =
       λ w α β P Q R. (
         lasts-none (begun (point three w) β) (0 - x .lower) (omega arith),
         lasts-none (broken (point three w) α) 0 (omega arith),
-        untouched (λ s. codeOf (since three w α β (x .lower) (x .upper) s)) 0 _,
+        untouched (λ s. code-of (since three w α β (x .lower) (x .upper) s)) 0 _,
       ),
     )
 
@@ -93,7 +93,7 @@ loop-again c =
           let ends = lasts-step t (t + 1) _ (broken e α) refl break (l .loop .breaks) (n .result) (n .ensures) (old .1) in (
             begins,
             ends,
-            one-more (λ s. codeOf (since three w α β (x .lower) (x .upper) s)) 0 t _ (l .loop .row) (c .before .since-value .result) (old .2)
+            one-more (λ s. code-of (since three w α β (x .lower) (x .upper) s)) 0 t _ (l .loop .row) (c .before .since-value .result) (old .2)
                 (omega arith) (omega (arith, on, s .pre .0, l .loop .inv .1))
                 (c .before .since-value .ensures w α β (x .lower) (x .upper) t (l .loop .inv .2) begins ends),
           ),

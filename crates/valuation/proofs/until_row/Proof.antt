@@ -6,7 +6,7 @@ use Prim.Native.Nat.{ℕ, _+_, _-_, _≤_, _<_}
 use native.Mathlib.Omega.{arith}
 use denote.Ref.{now}
 use lib.ListN.{length, length-set}
-use Rattle.kleene.specs.Truth.{Truth, codeOf}
+use Rattle.kleene.specs.Truth.{Truth, code-of}
 use Rattle.rows.specs.Over.{Over}
 use Rattle.rows.specs.Laws.{untouched, one-before}
 use Rattle.mtl.specs.Algebra.{three}
@@ -23,7 +23,7 @@ Inv-loop points left right lower upper ranks row₀ t₀ begins₀ breaks₀ row
     (t ≤ length points) × (length row ≡ 1024)
     × ((w : World Truth) (α β : ℕ → Truth) → Shows points (point three w) → Shows left α → Shows right β
     → Firsts (begun (point three w) β) (t + lower) begins × Firsts (broken (point three w) α) t breaks
-    × Over (λ s. codeOf (until three w α β lower upper s)) t (length points) row₀ row)
+    × Over (λ s. code-of (until three w α β lower upper s)) t (length points) row₀ row)
 
 abbrev μ-loop : tie.MeasureT-loop
 μ-loop points left right lower upper ranks row₀ t₀ begins₀ breaks₀ row t begins breaks = t
@@ -50,7 +50,7 @@ loop-holds c =
             (λ i l. ranked-past false points (now (x .right)) (point three w) β P R i (omega arith) (omega (arith, s .pre .2))),
         firsts-unknown (broken (point three w) α) m
             (λ i l. ranked-past true points (now (x .left)) (point three w) α P Q i (omega arith) (omega (arith, s .pre .1))),
-        untouched (λ s. codeOf (until three w α β (x .lower) (x .upper) s)) m _,
+        untouched (λ s. code-of (until three w α β (x .lower) (x .upper) s)) m _,
       ),
     )
 
@@ -110,7 +110,7 @@ loop-again c =
           let ends = firsts-step (t - 1) t _ (broken e α) more (omega arith) break (l .loop .breaks) (c .before .note2 .result) (c .before .note2 .ensures) (old .1) in (
             begins,
             ends,
-            one-before (λ s. codeOf (until three w α β (x .lower) (x .upper) s)) t (length points) _ (l .loop .row) (c .until-value .result) (old .2)
+            one-before (λ s. code-of (until three w α β (x .lower) (x .upper) s)) t (length points) _ (l .loop .row) (c .until-value .result) (old .2)
                 (t - 1) (omega arith) (omega arith) (omega arith)
                 (c .until-value .ensures w α β (x .lower) (x .upper) (t - 1) refl (omega arith) begins ends),
           ),

@@ -6,7 +6,7 @@ use native.Mathlib.Omega.{arith}
 use denote.Ref.{now}
 use lib.ListN.{length, take}
 use lib.Seq.{length-take-le}
-use Rattle.kleene.specs.Truth.{Truth, codeOf, not3, or3}
+use Rattle.kleene.specs.Truth.{Truth, code-of, not3, or3}
 use Rattle.mtl.specs.declared.Formula.{Formula}
 use Rattle.policy.specs.declared.Sizes.{Sizes}
 use Rattle.mtl.specs.Algebra.{three}
@@ -179,7 +179,7 @@ returns-2 c =
       s .pre .1,
       c .proposition-row .ensures .0,
       λ k v e P R. worked (x .sizes) k v (c .proposition-row .last .1 .1 .1 .0) (c .before .before .before .formula .given .1)
-          (λ t h. c .proposition-row .ensures .1 k e t h ∙ sym (ap codeOf (in-window (x .sizes) k t (fact k (c .before .before .before .formula .given .0 .0) t) h))),
+          (λ t h. c .proposition-row .ensures .1 k e t h ∙ sym (ap code-of (in-window (x .sizes) k t (fact k (c .before .before .before .formula .given .0 .0) t) h))),
     )
 
 returns-3 : tie.Need-returns-3
