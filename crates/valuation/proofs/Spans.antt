@@ -1,7 +1,7 @@
 -- Since and until are one notion: going back from t, or forward from it, something begins in an interval and nothing breaks off on the way. The
 -- last begin and the last break that are passed decide whether it reaches a threshold. Assumes nothing.
 use mathlib.Core.Path.{_≡_, refl, sym, subst}
-use mathlib.Core.Bool.{Bool, true, false, _&&_}
+use mathlib.Core.Bool.{Bool, true, false, not, _&&_}
 use mathlib.Core.Logic.{_↔_, ⊎-elim}
 use Prim.Native.Nat.{ℕ, suc, _+_, _-_, _≤_, _<_}
 use native.Mathlib.Omega.{arith}
@@ -11,11 +11,22 @@ use Rattle.kleene.specs.Truth.{Truth, not3}
 use Rattle.kleene.specs.Rank.{rank-of, rank-le, rank-or, rank-and, rank-not}
 use Rattle.rows.specs.Laws.{lt-or-le}
 use Rattle.decide.specs.Decide.{Decides}
-use Rattle.decide.specs.Laws.{fails, same, less, most, both}
+use Rattle.decide.specs.Laws.{fails, same, less, most, both, none}
 use Rattle.mtl.specs.Algebra.{three, any, meet, implies}
 use Rattle.mtl.specs.Reading.{World, point, meets, keeps, since-start, since-count, since, until-start, until-count, until}
 use Rattle.valuation.specs.Indexes.{ranked, begun, broken, Last, far, turned}
 use Rattle.valuation.proofs.Folds.{any-some, any-none, all-each, all-at}
+
+-- the tests of an order by what is not so
+at-least : (a b : ℕ) → Decides (not (ltb a b)) (b ≤ a)
+at-least a b =
+    same (λ (h : a < b → ⊥). ⊎-elim (λ (l : a < b). absurd (h l)) (λ (l : b ≤ a). l) (lt-or-le a b)) (λ l h. let z : ⊥ = omega arith in z)
+    (none (less a b))
+
+above : (a b : ℕ) → Decides (not (leb a b)) (b < a)
+above a b =
+    same (λ (h : a ≤ b → ⊥). ⊎-elim (λ (l : b < a). l) (λ (l : a ≤ b). absurd (h l)) (lt-or-le b a)) (λ l h. let z : ⊥ = omega arith in z)
+    (none (most a b))
 
 -- x reaches k just where some begin from lo on and before n does, and no break after it and before m reaches 3 - k
 record Reaches (k : ℕ) (f g : ℕ → ℕ) (lo n m : ℕ) (x : Truth) : Type 0 where
@@ -150,16 +161,16 @@ module _ (w : World Truth) (α β : ℕ → Truth) (k : ℕ) (pos : 0 < k) (smal
   -- the tests of since and until
   module _ (lower upper t begin stop : ℕ) where
     pub since-test : (start : ℕ) → start ≡ t - upper → Last k (begun e β) (t + 1 - lower) begin → Last (3 - k) (broken e α) (t + 1) stop
-        → (ltb start begin && leb stop begin) ≡ leb k (rank-of (since three w α β lower upper t))
+        → (not (leb begin start) && not (ltb begin stop)) ≡ leb k (rank-of (since three w α β lower upper t))
     since-test start s A B =
         decided k start _ _ begin stop (begun e β) (broken e α) (since three w α β lower upper t)
-        (rw s (since-reaches lower upper t)) A B (ltb start begin && leb stop begin) (both (less start begin) (most stop begin))
+        (rw s (since-reaches lower upper t)) A B (not (leb begin start) && not (ltb begin stop)) (both (above begin start) (at-least begin stop))
 
     pub until-test : (end : ℕ) → end ≡ t + upper → end < far → Last k (turned (begun e β)) (far - (t + lower)) (far - begin)
         → Last (3 - k) (turned (broken e α)) (far - t) (far - stop)
-        → (leb begin end && leb begin stop) ≡ leb k (rank-of (until three w α β lower upper t))
+        → (not (ltb end begin) && not (ltb stop begin)) ≡ leb k (rank-of (until three w α β lower upper t))
     until-test end s near A B =
         let order = turned-order begin end stop near in
         decided k (far - 1 - end) _ _ (far - begin) (far - stop) (turned (begun e β)) (turned (broken e α)) (until three w α β lower upper t)
-        (rw s (until-reaches lower upper t (rw s at near))) A B (leb begin end && leb begin stop)
-        (same (order .0) (order .1) (both (most begin end) (most begin stop)))
+        (rw s (until-reaches lower upper t (rw s at near))) A B (not (ltb end begin) && not (ltb stop begin))
+        (same (order .0) (order .1) (both (at-least end begin) (at-least stop begin)))

@@ -112,8 +112,8 @@ fn since_value(start: usize, begins: Nearest, breaks: Nearest) -> u8
         → Lasts (begun (point three w) β) (t + 1 - lower) begins → Lasts (broken (point three w) α) (t + 1) breaks
         → r ≡ code-of (since three w α β lower upper t)) ⌝ }
 {
-    let sure = (start < begins.sure) & (breaks.may <= begins.sure);
-    let may = (start < begins.may) & (breaks.sure <= begins.may);
+    let sure = !(begins.sure <= start) & !(begins.sure < breaks.may);
+    let may = !(begins.may <= start) & !(begins.may < breaks.sure);
     code(sure, may)
 }
 
@@ -171,8 +171,8 @@ fn until_value(end: usize, begins: Nearest, breaks: Nearest) -> u8
         → Firsts (begun (point three w) β) (t + lower) begins → Firsts (broken (point three w) α) t breaks
         → r ≡ code-of (until three w α β lower upper t)) ⌝ }
 {
-    let sure = (begins.sure <= end) & (begins.sure <= breaks.may);
-    let may = (begins.may <= end) & (begins.may <= breaks.sure);
+    let sure = !(end < begins.sure) & !(breaks.may < begins.sure);
+    let may = !(end < begins.may) & !(breaks.sure < begins.may);
     code(sure, may)
 }
 
