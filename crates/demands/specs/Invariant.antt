@@ -13,7 +13,7 @@ use lib.Bits.{bitOr, or-lt}
 use borrow.Author.Tests.{ne-eqb}
 use Rattle.kleene.specs.Truth.{code-of}
 use Rattle.bits.specs.Bits.{bit, bit-of-zero}
-use Rattle.mtl.specs.Folds.{both}
+use Rattle.logic.specs.Bools.{both}
 use Rattle.rows.specs.Grid.{table, table-length, table-at, place-of, in-grid, place-in}
 use Rattle.policy.specs.declared.Policy.{Policy}
 use Rattle.policy.specs.Proper.{Proper}

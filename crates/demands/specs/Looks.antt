@@ -15,7 +15,7 @@ use Rattle.refusal.specs.declared.Answer.the-variants as C
 use Rattle.refusal.specs.Numbers.{refusal-number, refusal-place, refusal-of}
 use Rattle.refusal.specs.Checks.{Check, check, first-failed, Passed as All-passed, Refuses, here, there}
 use Rattle.refusal.specs.Laws.{passing-law, refused-before, refused-after, refused-where, passed-both, passed-parts, number-law, not-accepted}
-use Rattle.mtl.specs.Folds.{both, pair}
+use Rattle.logic.specs.Bools.{both, pair}
 use Rattle.policy.specs.Format.{policy-checks, policy-of}
 use Rattle.policy.specs.Proper.{Causes as Policy-reader-causes}
 use Rattle.policy.specs.Causes.{policy-refuses}

@@ -7,7 +7,7 @@ use mathlib.Core.Logic.{_⊎_, inl, inr, _↔_, _≢_}
 use mathlib.Core.List.{List, [], _∷_, _++_}
 use lib.ListN.{getD, length, replicate}
 use borrow.Author.Tests.{ne-eqb}
-use Rattle.mtl.specs.Folds.{both}
+use Rattle.logic.specs.Bools.{both}
 use Rattle.rows.specs.Laws.{zeros}
 use Rattle.refusal.specs.declared.Refusal.{Refusal}
 use Rattle.refusal.specs.declared.Refusal.the-variants.{Conflict}

@@ -10,7 +10,7 @@ use lib.ListN.{length}
 use Rattle.kleene.specs.Truth.{Truth, unknown, true3, false3, code-of}
 use Rattle.mtl.specs.Algebra.{two}
 use Rattle.mtl.specs.Reading.{reading}
-use Rattle.mtl.specs.Folds.{both, pair}
+use Rattle.logic.specs.Bools.{both, pair}
 use Rattle.mtl.specs.Knowing.{Settles, open3, is-true, is-false, reading-decides}
 use Rattle.mtl.specs.Textbook.{Holds, textbook}
 use Rattle.policy.specs.declared.Policy.{Policy}

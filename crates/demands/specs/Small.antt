@@ -9,7 +9,7 @@ use Rattle.bits.specs.Bits.{bit}
 use Rattle.refusal.specs.declared.Refusal.the-variants.{BadMessage, Conflict}
 use Rattle.mtl.specs.Reading.{since, until, deep, reading}
 use Rattle.policy.specs.Format.{line-length, fields-at, keeps-kind, good-line, meaning, formula-of, subformula-of, subformula-at, heading-checks, offset, line-checks, lines-checks, lines-up-to, subformulas-of, rule-lines, rules-up-to, closing-checks, policy-checks, answer-of as policy-answer, policy-of}
-use Rattle.message.specs.Format.{component-of, minute-of, number-of, named-of, packed-of, values-of, length-of, fields-of, good-alive, good-observation, all-written, good-fields, answer-of as message-answer, event-in}
+use Rattle.message.specs.Format.{component-of, minute-of, number-of, named-of, packed-of, length-of, fields-of, good-alive, good-observation, all-written, good-fields, answer-of as message-answer, event-in}
 use Rattle.message.specs.Fixes.{meaning-of}
 use Rattle.knowledge.specs.Knowledge.{follow, steady, rises, level, word-sound, words-agree, noted, valued, number, is-point, is-none, sound, fresh, stored, free, admits}
 use Rattle.valuation.specs.Sheets.{valuation-of, verdicts-of, standing}
@@ -102,7 +102,7 @@ module _ (s : List ℕ) (x : State) (e : open-state s x .state ≡ opened (polic
   reply-from bs b = ap (λ (y : State). receive s (run-calls s y (map Receive bs)) b .answer) e
 
 pub small-shift : (x y : State) → open-state K x .answer ≡ Done → open-state U y .answer ≡ Done → Small-shift x y
-unfolding digit below expanded bit since until deep reading line-length fields-at keeps-kind good-line meaning formula-of subformula-of subformula-at heading-checks offset line-checks lines-checks lines-up-to subformulas-of rule-lines rules-up-to closing-checks policy-checks policy-answer policy-of component-of minute-of number-of named-of packed-of values-of length-of fields-of good-alive good-observation all-written good-fields message-answer event-in meaning-of noted valued number is-point is-none sound fresh stored free admits valuation-of verdicts-of standing sizes-fit opened receive follow steady rises level word-sound words-agree
+unfolding digit below expanded bit since until deep reading line-length fields-at keeps-kind good-line meaning formula-of subformula-of subformula-at heading-checks offset line-checks lines-checks lines-up-to subformulas-of rule-lines rules-up-to closing-checks policy-checks policy-answer policy-of component-of minute-of number-of named-of packed-of length-of fields-of good-alive good-observation all-written good-fields message-answer event-in meaning-of noted valued number is-point is-none sound fresh stored free admits valuation-of verdicts-of standing sizes-fit opened receive follow steady rises level word-sound words-agree
 small-shift x y d e =
     let k : open-state K x .state ≡ opened (policy-of K) = opens K x d .state in
     let u : open-state U y .state ≡ opened (policy-of U) = opens U y e .state in

@@ -25,12 +25,6 @@ long-of a b c d = word-of a b + word-of c d * 65536
 abbrev pub field8 : List ℕ → Bool → ℕ → ℕ
 field8 s present at = cond present (getD s at 0) 0
 
-abbrev pub field16 : List ℕ → Bool → ℕ → ℕ
-field16 s present at = cond present (word-of (getD s at 0) (getD s (at + 1) 0)) 0
-
-abbrev pub field32 : List ℕ → Bool → ℕ → ℕ
-field32 s present at = cond present (long-of (getD s at 0) (getD s (at + 1) 0) (getD s (at + 2) 0) (getD s (at + 3) 0)) 0
-
 -- a written field is not 0
 abbrev pub written : Bool → ℕ → Bool
 written present value = not present || not (eqb value 0)

@@ -1,5 +1,5 @@
 -- Fields that are read and pass "a written field is not 0" stand as the format lays them out, and only those do.
-use Prim.Native.Nat.{ℕ, zero, suc, _+_, _<_}
+use Prim.Native.Nat.{ℕ, zero, suc, _+_, _<_, _≤_}
 use native.Mathlib.Omega.{arith}
 use mathlib.Core.Path.{_≡_, refl, sym, ap, ap₂, _∙_}
 use mathlib.Core.Bool.{Bool, true, false, cond, true≢false}
@@ -9,6 +9,11 @@ use borrow.Author.Tests.{ne-eqb}
 use lib.ListN.{getD, length}
 use Rattle.encoding.specs.Fields.{has, size, written}
 use Rattle.encoding.specs.Layout.{width, start, extent, value-at, field, takes, follows, Laid}
+
+-- a field takes at most its bytes
+pub size-most : (present : Bool) (n : ℕ) → size present n ≤ n
+size-most true n = omega arith
+size-most false n = omega arith
 
 -- a field whose bit stands is not 0
 pub not-zero : (b : Bool) (n : ℕ) → written b n ≡ true → b ≡ true → n ≢ 0
@@ -41,9 +46,13 @@ module _ (ws s : List ℕ) (at : ℕ) where
   same-start v zero h = refl
   same-start v (suc n) h = ap₂ _+_ (same-start v n (λ k l. h k (omega arith))) (as-many (has map n) (v n) (width ws n) (h n (omega arith)))
 
-  -- a layout takes the bytes that its map says
+  -- a layout ends where its map says
+  pub laid-start : (v : ℕ → ℕ) → Laid ws s at v → start ws map at (length ws) ≡ follows ws v at (length ws)
+  laid-start v l = same-start v (length ws) (l .bits)
+
+  -- and takes the bytes that its map says
   pub laid-extent : (v : ℕ → ℕ) → Laid ws s at v → at + extent ws map ≡ follows ws v at (length ws)
-  laid-extent v l = shift (length ws) ∙ same-start v (length ws) (l .bits)
+  laid-extent v l = shift (length ws) ∙ laid-start v l
     where
       shift : (n : ℕ) → at + start ws map 0 n ≡ start ws map at n
       shift zero = refl

@@ -7,7 +7,7 @@ use mathlib.Core.Path.{_≡_, refl, sym, ap, subst, _∙_}
 use mathlib.Core.Bool.{Bool, true, false, _&&_}
 use mathlib.Core.Logic.{inl, inr}
 use lib.ListN.{getD}
-use Rattle.mtl.specs.Folds.{pair}
+use Rattle.logic.specs.Bools.{pair}
 use Rattle.decide.specs.Decide.{Decides}
 use Rattle.decide.specs.Laws.{agree, same, both}
 use Rattle.policy.specs.declared.Sizes.{Sizes}

@@ -1,6 +1,6 @@
 -- What two codes tell of a minute together, by the tests that decide it. Assumes nothing.
 use mathlib.Core.Path.{_≡_, refl, sym, ap, ap₂, _∙_}
-use mathlib.Core.Bool.{Bool, true, false, not, _&&_, _||_}
+use mathlib.Core.Bool.{Bool, true, false, _&&_, _||_}
 use Prim.Native.Nat.{ℕ, zero, suc}
 use native.Mathlib.Omega.{arith}
 use lib.Dec.{eqb}
@@ -28,12 +28,6 @@ or-says false false false false = refl
 
 merge-says : (x y : ℕ) → code-of (or3 (value-of x) (value-of y)) ≡ code-of (says (eqb x 1 || eqb y 1) (eqb x 2 && eqb y 2))
 merge-says x y = ap code-of (ap₂ or3 (value-says x) (value-says y) ∙ or-says (eqb x 1) (eqb x 2) (eqb y 1) (eqb y 2))
-
--- what both say, as the folds say it
-pub meet-and : (a b : Bool) → not (not a || not b) ≡ (a && b)
-meet-and true true = refl
-meet-and true false = refl
-meet-and false b = refl
 
 -- what each way through the two tests answers
 module _ (x y : ℕ) where

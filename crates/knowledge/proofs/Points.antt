@@ -15,7 +15,8 @@ use Rattle.rows.specs.Over.{Over}
 use Rattle.rows.specs.Laws.{two}
 use Rattle.policy.specs.declared.Sizes.{Sizes}
 use Rattle.knowledge.specs.Knowledge.{Knowledge, number, is-point, is-none, point-known, run-of, rises, level, says}
-use Rattle.knowledge.proofs.Merging.{or-says, meet-and}
+use Rattle.knowledge.proofs.Merging.{or-says}
+use Rattle.logic.specs.Bools.{de-morgan}
 use Rattle.knowledge.specs.Run.{joined, told}
 
 pub stretch : (f : ℕ → ℕ) (m mid hi : ℕ) (old row new : List ℕ) (code : ℕ) → Over (joined old (told f m)) 0 mid old row
@@ -36,7 +37,7 @@ points-more l m n t =
     let busy = any algebra.two 0 n (λ c. rises (run-of l m c) t) in
     let quiet = all algebra.two 0 n (λ c. level (run-of l m c) m t) in
     rw add-one
-    (ap (says (busy || rises (run-of l m (0 + n)) t)) (meet-and quiet (level (run-of l m (0 + n)) m t))
+    (ap (says (busy || rises (run-of l m (0 + n)) t)) (de-morgan quiet (level (run-of l m (0 + n)) m t))
     ∙ sym (or-says busy quiet (rises (run-of l m (0 + n)) t) (level (run-of l m (0 + n)) m t))
     ∙ ap (λ (j : ℕ). or3 (points l m n t) (told (run-of l m j) m t)) (zero-add n))
 

@@ -7,7 +7,7 @@ use mathlib.Core.Bool.{Bool, true}
 use mathlib.Core.Logic.{_⊎_, inl, inr, _↔_}
 use Rattle.knowledge.specs.Knowledge.{none, Knowledge, Sized, noted, valued, number, Sound, Agrees, sound, stored, free, admits}
 use Rattle.knowledge.specs.Trace.{Trace, made, Admits}
-use Rattle.mtl.specs.Folds.{both, pair}
+use Rattle.logic.specs.Bools.{both, pair}
 use Rattle.policy.specs.declared.Sizes.{Sizes}
 use Rattle.message.specs.Fixes.{Message, Fixes-number, Fixes-fact, Fits}
 use Rattle.knowledge.specs.Laws.{Limits, Free, free-law, sound-law}

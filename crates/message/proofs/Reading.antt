@@ -8,7 +8,9 @@ use native.Mathlib.Nat.{add-zero}
 use lib.Dec.{ltb, leb}
 use lib.ListN.{length}
 use borrow.Author.Tests.{le-leb, lt-leb, leb-true, leb-false}
-use Rattle.encoding.specs.Fields.{has, size, long-of, field8, field32}
+use Rattle.encoding.specs.Fields.{has, size, long-of, field8}
+use Rattle.encoding.specs.Layout.{value-at}
+use Rattle.encoding.specs.Laws.{size-most}
 use Rattle.refusal.specs.declared.Answer.the-variants.{Accepted}
 use Rattle.message.specs.declared.Fields.{Fields}
 use Rattle.message.specs.declared.Event.{Event}
@@ -16,15 +18,11 @@ use Rattle.message.specs.declared.Length.{Length}
 use Rattle.message.specs.declared.Length.the-variants.{Whole, EndsEarly}
 use Rattle.message.specs.Format.{map-of, minute-at, number-at, named-at, values-at, value-bytes, packed-at, named-of, length-of, measured, event-in, accepted-with}
 
-size-le : (present : Bool) (n : ℕ) → size present n ≤ n
-size-le true n = omega arith
-size-le false n = omega arith
-
 -- what the code finds of a field's size, by its bit of the map
 pub sized : {r n : ℕ} {found bit : Bool} → r ≡ size found n → found ≡ bit → (r ≡ size bit n) × (r ≤ n)
 sized {r} {n} {found} {bit} e h =
     let f : r ≡ size bit n = e ∙ ap (λ (b : Bool). size b n) h in
-    (f, omega (arith, f, size-le bit n))
+    (f, omega (arith, f, size-most bit n))
 
 -- the four value bytes, found one by one
 pub packed : (s : List ℕ) (n at : ℕ) {r a b c d : ℕ} → r ≡ long-of a b c d
@@ -50,10 +48,10 @@ inside s h =
     record { map-in = omega arith; component-in = omega arith; minute-in = omega arith; number-in = omega arith; named-in = omega arith; values-in = h }
 
 -- the mark map, found at its place, and the length that it gives
-pub named-found : (s : List ℕ) {r at : ℕ} {b : Bool} → r ≡ field32 s b at → b ≡ has (map-of s) 3 → at ≡ named-at (map-of s)
+pub named-found : (s : List ℕ) {r at : ℕ} {b : Bool} → r ≡ cond b (value-at s at 4) 0 → b ≡ has (map-of s) 3 → at ≡ named-at (map-of s)
     → r ≡ named-of s
 unfolding named-of
-named-found s e p q = e ∙ ap₂ (λ (b : Bool) (at : ℕ). field32 s b at) p q
+named-found s e p q = e ∙ ap₂ (λ (b : Bool) (at : ℕ). cond b (value-at s at 4) 0) p q
 
 pub length-found : (s : List ℕ) {values n named : ℕ} → values ≡ values-at (map-of s) → n ≡ value-bytes named → named ≡ named-of s
     → values + n ≡ length-of s

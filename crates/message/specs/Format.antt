@@ -66,10 +66,6 @@ packed-at s n at = long-of (field8 s (ltb 0 n) at) (field8 s (ltb 1 n) (at + 1))
 unfoldable pub packed-of : List ℕ → ℕ
 packed-of s = packed-at s (value-bytes (named-of s)) (values-at (map-of s))
 
--- "Value bit j (from the lowest bit of the first byte) belongs to the j-th named mark, lowest first": the values at the marks' own bits
-unfoldable pub values-of : List ℕ → ℕ
-values-of s = expanded 32 (named-of s) (packed-of s)
-
 -- what the rules are about
 unfoldable pub fields-of : List ℕ → Fields
 fields-of s =

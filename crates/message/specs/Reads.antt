@@ -9,12 +9,13 @@ use mathlib.Core.List.{List, [], _∷_}
 use lib.Dec.{eqb, ltb, leb}
 use lib.ListN.{getD, length}
 use borrow.Author.Tests.{ltb-true, lt-ltb, leb-true, le-leb, eqb-true, eq-eqb}
+use Rattle.logic.specs.Bools.{both, pair}
 use Rattle.bits.specs.Digits.{digit, below, expanded}
 use Rattle.bits.specs.Packed.{below-le, expanded-lt, expanded-value, expanded-other, expanded-only}
 use Rattle.bits.specs.Masks.{bits-below}
 use Rattle.encoding.specs.Fields.{has, written}
 use Rattle.encoding.specs.Layout.{start, follows, field, Laid}
-use Rattle.encoding.specs.Laws.{as-many, laid-field, laid-written, fields-laid}
+use Rattle.encoding.specs.Laws.{laid-start, laid-field, laid-written, fields-laid}
 use Rattle.refusal.specs.declared.Refusal.the-variants.{BadMessage}
 use Rattle.refusal.specs.declared.Answer.the-variants.{Accepted, Refused}
 use Rattle.refusal.specs.Checks.{Passed, none, pass, here, there}
@@ -26,14 +27,6 @@ use Rattle.message.specs.declared.Event.the-variants.{Observation, Alive
 use Rattle.message.specs.Format.{widths, map-of, values-at, component-of, minute-of, number-of, named-of, value-bytes, packed-at, packed-of, fields-of, length-of, good-alive, good-observation, all-written, good-fields, good-message, message-checks, answer-of, event-if, event-in}
 use Rattle.message.specs.Encoded.{Values, Is-event, is-observation, is-alive, is-alive-event, bytes-at, Is-message}
 use Rattle.message.specs.Fixes.{Message, meaning-of}
-
-both : (a b : Bool) → (a && b) ≡ true → (a ≡ true) × (b ≡ true)
-both true true e = (refl, refl)
-both true false e = (refl, e)
-both false b e = absurd (false≢true e)
-
-and : {a b : Bool} → a ≡ true → b ≡ true → (a && b) ≡ true
-and p q = rw (p, q)
 
 -- ---- the fields
 
@@ -75,15 +68,6 @@ none-zero s e k h =
     go (suc (suc zero)) l p q u v = u
     go (suc (suc (suc zero))) l p q u v = v
     go (suc (suc (suc (suc k)))) l p q u v = absurd (omega arith)
-
--- where the fields of a layout end
-extent-of : (ws s : List ℕ) (at : ℕ) (v : ℕ → ℕ) → Laid ws s at v
-    → start ws (getD s at 0) at (length ws) ≡ follows ws v at (length ws)
-extent-of ws s at v l = go (length ws) (λ k h. l .bits k h)
-  where
-    go : (n : ℕ) → ((k : ℕ) → k < n → (has (getD s at 0) k ≡ true) ↔ (v k ≢ 0)) → start ws (getD s at 0) at n ≡ follows ws v at n
-    go zero h = refl
-    go (suc n) h = ap₂ _+_ (go n (λ k i. h k (omega arith))) (as-many (has (getD s at 0) n) (v n) (getD ws n 0) (h n (omega arith)))
 
 -- ---- the values
 
@@ -164,14 +148,14 @@ module _ (z : Sizes) where
       → Good (record { map = map; component = component; minute = minute; number = number; named = named; packed = packed }) e
   unfolding good-fields good-alive good-observation event-in
   event-good map m k w (is-alive component minute number c t) = record {
-    rules = and (lt-ltb map 32 m) (and w (and (lt-ltb component (z .components) c) (rw k (le-leb minute (z .minutes) t))));
+    rules = pair (lt-ltb map 32 m) (pair w (pair (lt-ltb component (z .components) c) (rw k (le-leb minute (z .minutes) t))));
     same = rw k;
   }
   event-good map m k w (is-observation component minute number named packed values c t n marks spare v) = record {
-    rules = and (lt-ltb map 32 m) (and w (and (lt-ltb component (z .components) c) (rw k
-        (and (lt-ltb minute (z .minutes) t)
-        (and (le-leb 1 number n)
-        (and (lt-ltb named (2 ^ z .propositions) (bits-below (z .propositions) named .1 marks))
+    rules = pair (lt-ltb map 32 m) (pair w (pair (lt-ltb component (z .components) c) (rw k
+        (pair (lt-ltb minute (z .minutes) t)
+        (pair (le-leb 1 number n)
+        (pair (lt-ltb named (2 ^ z .propositions) (bits-below (z .propositions) named .1 marks))
         (lt-ltb packed (2 ^ below 32 named) (bits-below (below 32 named) packed .1 spare))))))));
     same = rw k (ap (λ (x : ℕ). Observation minute number named x) (sym (only-values named packed values v)));
   }
@@ -222,7 +206,7 @@ module _ (z : Sizes) (s : List ℕ) where
         alive = event-kind (fields-of s);
         spare = ltb-true _ _ (map .0);
         at = values-at (map-of s);
-        behind = extent-of widths s 0 (numbers (component-of s) (minute-of s) (number-of s) (named-of s)) laid;
+        behind = laid-start widths s 0 (numbers (component-of s) (minute-of s) (number-of s) (named-of s)) laid;
         values = sym (packed-bytes s (values-at (map-of s)) (value-bytes (named-of s)) (value-bytes-le (named-of s)));
         ends = k .0;
       }
@@ -239,7 +223,7 @@ module _ (z : Sizes) (s : List ℕ) where
     named-read = laid-field widths s 0 laid-numbers (m .laid) 3 (omega arith)
 
     values-behind : values-at (map-of s) ≡ m .at
-    values-behind = extent-of widths s 0 laid-numbers (m .laid) ∙ sym (m .behind)
+    values-behind = laid-start widths s 0 laid-numbers (m .laid) ∙ sym (m .behind)
 
     packed-read : packed-of s ≡ m .packed
     unfolding packed-of
@@ -264,7 +248,7 @@ module _ (z : Sizes) (s : List ℕ) where
     unfolding all-written fields-of component-of minute-of number-of named-of
     fields-written =
         let w = laid-written widths s 0 laid-numbers (m .laid) in
-        and (w 0 (omega arith)) (and (w 1 (omega arith)) (and (w 2 (omega arith)) (w 3 (omega arith))))
+        pair (w 0 (omega arith)) (pair (w 1 (omega arith)) (pair (w 2 (omega arith)) (w 3 (omega arith))))
 
     good : Good z said (m .event)
     good = event-good z (map-of s) (m .spare) (m .alive) (sym (ap all-written fields-read) ∙ fields-written) (m .is-event)

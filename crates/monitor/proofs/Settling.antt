@@ -7,7 +7,7 @@ use native.Mathlib.Numerals.{add-one}
 use lib.Dec.{eqb}
 use lib.ListN.{length, take, drop, replicate}
 use lib.Seq.{drop-length, take-length}
-use Rattle.mtl.specs.Folds.{both}
+use Rattle.logic.specs.Bools.{both}
 use Rattle.rows.specs.Grid.{table, table-length}
 use Rattle.policy.specs.declared.Policy.{Policy}
 use Rattle.policy.specs.Proper.{Proper}

@@ -12,7 +12,7 @@ use lib.Dec.{eqb}
 use borrow.Author.Tests.{eqb-true, eq-eqb, ne-eqb}
 use Rattle.kleene.specs.Truth.{code-of}
 use Rattle.bits.specs.Bits.{bit, bit-of-zero}
-use Rattle.mtl.specs.Folds.{both, pair}
+use Rattle.logic.specs.Bools.{both, pair}
 use Rattle.rows.specs.Grid.{table, table-length, table-at, place-of, in-grid, place-in}
 use Rattle.policy.specs.declared.Policy.{Policy}
 use Rattle.policy.specs.Proper.{rules-of}

@@ -4,15 +4,8 @@ use native.Mathlib.Omega.{arith}
 use native.Mathlib.Decide.{ℕ-discrete}
 use mathlib.Core.Path.{_≡_, refl, sym, ap, _∙_}
 use mathlib.Core.Bool.{Bool, true, false, _||_, _&&_, true≢false, or-true}
-use Rattle.logic.specs.Bools.{de-morgan}
+use Rattle.logic.specs.Bools.{both, de-morgan}
 use Rattle.mtl.specs.Algebra.{any, all, meet, two}
-
-pub both : (a b : Bool) → (a && b) ≡ true → (a ≡ true) × (b ≡ true)
-both true b e = (refl, e)
-both false b e = absurd (true≢false (sym e))
-
-pub pair : {a b : Bool} → a ≡ true → b ≡ true → (a && b) ≡ true
-pair e f = rw (e, f)
 
 pub meet-true : (a b : Bool) → meet two a b ≡ true → (a ≡ true) × (b ≡ true)
 meet-true a b e = both a b (sym (de-morgan a b) ∙ e)

@@ -8,6 +8,7 @@ use native.Mathlib.Omega.{arith}
 use native.Mathlib.Decide.{decLt}
 use lib.ListN.{length, getD}
 use Rattle.encoding.specs.Fields.{has, size}
+use Rattle.encoding.specs.Laws.{size-most}
 use Rattle.mtl.specs.declared.Formula.{Formula}
 use Rattle.mtl.specs.declared.Formula.the-variants as F
 use Rattle.mtl.specs.Syntax.{Operands, Proposes, Bounded}
@@ -51,14 +52,9 @@ accepted s e =
 
 -- ---- its length
 
--- a field takes at most its bytes
-pub at-most : (present : Bool) (n : ℕ) → size present n ≤ n
-at-most true n = omega arith
-at-most false n = omega arith
-
 line-short : (map : ℕ) → line-length map ≤ 8
 unfolding line-length
-line-short map = omega (arith, at-most (has map 0) 1, at-most (has map 1) 1, at-most (has map 2) 1, at-most (has map 3) 2, at-most (has map 4) 2)
+line-short map = omega (arith, size-most (has map 0) 1, size-most (has map 1) 1, size-most (has map 2) 1, size-most (has map 3) 2, size-most (has map 4) 2)
 
 reaches : (s : List ℕ) (n : ℕ) → offset s n ≤ 5 + n * 8
 unfolding offset

@@ -8,7 +8,7 @@ use native.Mathlib.Omega.{arith}
 use native.Mathlib.Nat.{eq-or-lt-of-le}
 use borrow.Author.Tests.{leb-true, le-leb}
 use lib.Dec.{leb}
-use Rattle.mtl.specs.Folds.{both, pair}
+use Rattle.logic.specs.Bools.{both, pair}
 use Rattle.policy.specs.Encoded.{Between}
 use Rattle.policy.specs.Format.{within}
 

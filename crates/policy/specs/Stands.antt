@@ -11,7 +11,7 @@ use lib.ListN.{getD, length}
 use Rattle.encoding.specs.Fields.{has, written}
 use Rattle.encoding.specs.Layout.{field, Laid}
 use Rattle.encoding.specs.Laws.{is-written, laid-field, fields-laid}
-use Rattle.mtl.specs.Folds.{both, pair}
+use Rattle.logic.specs.Bools.{both, pair}
 use Rattle.policy.specs.declared.Fields.{Fields}
 use Rattle.policy.specs.declared.Kind.{Kind}
 use Rattle.policy.specs.Encoded.{Line, widths, numbers, Line-at}
