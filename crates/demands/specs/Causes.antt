@@ -12,19 +12,18 @@ use Rattle.refusal.specs.declared.Refusal.the-variants.{TruncatedPolicy, BadHea
 use Rattle.refusal.specs.declared.Answer.{Answer as Checked}
 use Rattle.refusal.specs.declared.Answer.the-variants as C
 use Rattle.refusal.specs.Numbers.{refusal-number, refusal-place, refusal-of}
-use Rattle.refusal.specs.Checks.{Check, check, first-failed, Passed as All-passed, none, pass, Refuses, here, there, Refused-with}
-use Rattle.refusal.specs.Laws.{refusal-law, passing-law, refused-before, refused-after, passed-both, passed-parts, refused-where, other-number, number-law, not-accepted}
+use Rattle.refusal.specs.Checks.{Check, check, first-failed, Passed as All-passed, none, pass, Refuses, here, there}
+use Rattle.refusal.specs.Laws.{refusal-law, passing-law, refused-before, refused-after, passed-both, passed-parts, refused-where, number-law, not-accepted}
 use Rattle.policy.specs.Format.{policy-checks, answer-of as policy-answer, policy-of}
 use Rattle.policy.specs.Proper.{Causes as Policy-reader-causes}
 use Rattle.policy.specs.Causes.{policy-refuses}
-use Rattle.message.specs.Format.{length-of, good-message, message-checks, answer-of as message-answer}
+use Rattle.message.specs.Format.{message-checks, answer-of as message-answer}
 use Rattle.message.specs.Fixes.{Fits, Well-formed, meaning-of}
 use Rattle.message.specs.Proper.{Causes as Message-reader-causes}
 use Rattle.knowledge.specs.Knowledge.{Sound, sound, admits}
 use Rattle.knowledge.specs.Laws.{Limits, sound-law}
 use Rattle.knowledge.specs.Conflict.{admits-law}
-use Rattle.monitor.specs.declared.Answer.{Answer}
-use Rattle.monitor.specs.declared.Answer.the-variants.{Done, Received, Refused}
+use Rattle.monitor.specs.declared.Answer.the-variants.{Done, Refused}
 use Rattle.monitor.specs.State.{State, Outcome, unless, Sized, sized, opened, settled, slip-checks, record-checks, opening-checks, take-checks, open-state, receive, Taken}
 use Rattle.monitor.specs.Demands.{sizes-of, Some-trace, reply, Policy-causes, Policy-passed, Opening-causes, Passed, Take-causes}
 use Rattle.monitor.specs.Laws.{knowledge-sized, sized-law}

@@ -1,32 +1,28 @@
 -- What holds after any takes: the knowledge is what the opening and the accepted messages fix, and the sheets are the reading over it.
-use Prim.Native.Nat.{ℕ, zero, suc, _+_, _-_, _*_, _/_, _%_, _≤_, _<_}
+use Prim.Native.Nat.{ℕ, _+_, _-_, _*_, _≤_, _<_}
 use native.Mathlib.Omega.{arith}
 use native.Mathlib.Decide.{decLt, ℕ-discrete}
 use mathlib.Core.Path.{_≡_, refl, sym, ap, _∙_}
 use mathlib.Core.Bool.{Bool, true, false, cond, true≢false}
 use mathlib.Core.Logic.{_⊎_, inl, inr}
 use mathlib.Core.List.{List}
-use lib.ListN.{getD, length, set, replicate, length-replicate, getD-replicate, List·getD-eq-default}
-use lib.Seq.{getD-set-same, getD-set-other, set-out, ext-getD}
+use lib.ListN.{getD, length, set, length-replicate}
+use lib.Seq.{getD-set-same, getD-set-other, set-out}
 use lib.Dec.{eqb}
 use lib.Bits.{bitOr, or-lt}
-use borrow.Author.Tests.{ne-eqb}
-use Rattle.kleene.specs.Truth.{code-of}
-use Rattle.bits.specs.Bits.{bit, bit-of-zero}
 use Rattle.logic.specs.Bools.{both}
-use Rattle.rows.specs.Grid.{table, table-length, table-at, place-of, in-grid, place-in}
 use Rattle.policy.specs.declared.Policy.{Policy}
 use Rattle.policy.specs.Proper.{Proper}
 use Rattle.message.specs.declared.Event.{Event}
 use Rattle.message.specs.declared.Event.the-variants.{Observation, Alive}
 use Rattle.message.specs.Fixes.{Message, Fixes-number, Fixes-fact, Fits, Fits-event}
-use Rattle.knowledge.specs.Knowledge.{Knowledge, none, noted, valued, number, Sound, is-point, sound, fresh, put-facts, stored, free, admits, Sized as Long}
-use Rattle.knowledge.specs.Laws.{Free, free-law, sound-law, point-law}
+use Rattle.knowledge.specs.Knowledge.{Knowledge, none, number, Sound, sound, fresh, put-facts, stored, free, admits, Sized as Long}
+use Rattle.knowledge.specs.Laws.{Free, free-law, sound-law}
 use Rattle.knowledge.specs.Store.{Fact, fact-law, store-long, number-either, number-hit, facts-after, numbers-after}
-use Rattle.valuation.specs.Sheets.{value, verdict, valuation-of, verdicts-of}
+use Rattle.valuation.specs.Sheets.{valuation-of, verdicts-of}
 use Rattle.monitor.specs.State.{State, Sized, opened, over}
 use Rattle.monitor.specs.Laws.{knowledge-sized, sheet-lengths, fresh-number, fresh-known, fresh-first, fresh-facts, fresh-noted, fresh-sound, blank-sheet, lengths}
-use Rattle.monitor.specs.Demands.{rule-line, Exact}
+use Rattle.monitor.specs.Demands.{Exact}
 
 module _ (c : Policy) where
   pub record Kept-up (x : State) (Q : Message → Type 0) : Type 0 where

@@ -1,12 +1,12 @@
 -- Each answer of a look has its own cause: the policy's checks answer 1 to 4 only, then one check each gives 5 and 10.
-use Prim.Native.Nat.{ℕ, zero, suc, _+_, _*_, _≤_, _<_}
+use Prim.Native.Nat.{ℕ, _*_, _≤_, _<_}
 use native.Mathlib.Omega.{arith}
-use mathlib.Core.Path.{_≡_, refl, sym, ap, _∙_}
-use mathlib.Core.Bool.{Bool, true, false, _&&_}
-use mathlib.Core.Logic.{_↔_, _≢_, _⊎_, inl, inr}
-use mathlib.Core.List.{List, [], _∷_, _++_}
+use mathlib.Core.Path.{_≡_, refl, ap}
+use mathlib.Core.Bool.{Bool, true, _&&_}
+use mathlib.Core.Logic.{_↔_, _⊎_, inl, inr}
+use mathlib.Core.List.{List, [], _∷_}
 use lib.Dec.{eqb, ltb}
-use lib.ListN.{getD, length}
+use lib.ListN.{length}
 use borrow.Author.Tests.{eqb-true, eq-eqb, ltb-true, lt-ltb}
 use Rattle.refusal.specs.declared.Refusal.{Refusal}
 use Rattle.refusal.specs.declared.Refusal.the-variants.{BufferSize, OutOfRange}
@@ -21,12 +21,11 @@ use Rattle.policy.specs.Proper.{Causes as Policy-reader-causes}
 use Rattle.policy.specs.Causes.{policy-refuses}
 use Rattle.monitor.specs.declared.Verdict.{Verdict}
 use Rattle.monitor.specs.declared.Verdict.the-variants.{Unknown, Satisfied, Violated}
-use Rattle.monitor.specs.declared.Look.{Look}
 use Rattle.monitor.specs.declared.Look.the-variants as L
 use Rattle.monitor.specs.Lookup.{verdict-of, show-unless, sheet-checks, look-checks, lookup-of}
 use Rattle.monitor.specs.Codes.{code-of-kept, code-of-broken, code-of-blank}
 use Rattle.monitor.specs.Demands.{sizes-of, Policy-passed, look-reply, On-sheet, code, Look-causes}
-use Rattle.demands.specs.Causes.{via, back, same, both-ways, at-zero-two, at-zero-three, one-fails, one-passes, one-number, decided, passed-policy, policy-part, after-policy}
+use Rattle.demands.specs.Causes.{via, same, both-ways, at-zero-two, at-zero-three, one-fails, one-passes, one-number, decided, passed-policy, policy-part, after-policy}
 
 same-verdict : (v w : Verdict) → L.Shows v ≡ L.Shows w → v ≡ w
 same-verdict v w e = cc

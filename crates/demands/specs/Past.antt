@@ -1,24 +1,23 @@
 -- A shift that runs past M may decide a rule below it: under U, "mark 0 within the next minute", with a false mark at the busy minute 3, the last one.
 -- In one shift that could have sent this slip an observation at minute 4 has the mark true, and the rule is kept at minute 3; in another there is
 -- none, and it is broken. So the sheet shows blank.
-use Prim.Native.Nat.{ℕ, suc, _≤_}
+use Prim.Native.Nat.{ℕ}
 use native.Mathlib.Omega.{arith}
-use mathlib.Core.Path.{_≡_, refl, sym, ap, _∙_}
+use mathlib.Core.Path.{_≡_, refl, sym, ap}
 use mathlib.Core.Bool.{Bool, true, false, _&&_, _||_, true≢false}
-use mathlib.Core.Logic.{_⊎_, inl, inr}
+use mathlib.Core.Logic.{inl, inr}
 use mathlib.Core.List.{List, [], _∷_, List·Memᴰ, List·Memᴰ·eq-of-singleton}
 use lib.Dec.{eqb}
 use borrow.Author.Tests.{ne-eqb}
 use Rattle.bits.specs.Digits.{digit, below, expanded}
 use Rattle.bits.specs.Bits.{bit, bit-of-zero}
-use Rattle.mtl.specs.Algebra.{two}
 use Rattle.mtl.specs.Reading.{since, until, deep, reading}
 use Rattle.mtl.specs.Textbook.{textbook}
 use Rattle.policy.specs.Format.{line-length, fields-at, keeps-kind, good-line, meaning, formula-of, subformula-of, subformula-at, heading-checks, offset, line-checks, lines-checks, lines-up-to, subformulas-of, rule-lines, rules-up-to, closing-checks, policy-checks, answer-of as policy-answer, policy-of}
 use Rattle.policy.specs.Proper.{formula-at}
 use Rattle.message.specs.Format.{component-of, minute-of, number-of, named-of, packed-of, length-of, fields-of, good-alive, good-observation, all-written, good-fields, answer-of as message-answer, event-in}
-use Rattle.message.specs.Fixes.{Message, Fixes-number, Fixes-fact, meaning-of}
-use Rattle.knowledge.specs.Trace.{Trace, made, Admits, Admits-all, time-point, trace-world}
+use Rattle.message.specs.Fixes.{Fixes-number, Fixes-fact, meaning-of}
+use Rattle.knowledge.specs.Trace.{Trace, made, Admits-all, time-point}
 use Rattle.knowledge.specs.Knowledge.{follow, steady, rises, level, word-sound, words-agree, noted, valued, number, is-point, is-none, sound, fresh, stored, free, admits}
 use Rattle.valuation.specs.Sheets.{valuation-of, verdicts-of, standing}
 use Rattle.monitor.specs.declared.Answer.the-variants.{Done}

@@ -1,7 +1,6 @@
 -- Takes under an accepted card, one and a list of them: each keeps the state up, and is accepted exactly when a trace admits it together with
 -- what was accepted before.
 use Prim.Native.Nat.{ℕ, _<_}
-use native.Mathlib.Omega.{arith}
 use mathlib.Core.Path.{_≡_, refl, sym, ap, _∙_}
 use mathlib.Core.Bool.{Bool, true, false, true≢false}
 use mathlib.Core.Logic.{_⊎_, inl, inr, _↔_, _≢_}
@@ -10,7 +9,6 @@ use lib.ListN.{length}
 use Rattle.kleene.specs.Truth.{Truth, unknown, true3, false3, code-of}
 use Rattle.mtl.specs.Algebra.{two}
 use Rattle.mtl.specs.Reading.{reading}
-use Rattle.logic.specs.Bools.{both, pair}
 use Rattle.mtl.specs.Knowing.{Settles, open3, is-true, is-false, reading-decides}
 use Rattle.mtl.specs.Textbook.{Holds, textbook}
 use Rattle.policy.specs.declared.Policy.{Policy}

@@ -3,8 +3,8 @@ use Prim.Native.Nat.{ℕ, zero, suc, _+_, _^_, _≤_, _<_}
 use native.Mathlib.Omega.{arith}
 use native.Mathlib.Nat.{add-zero}
 use mathlib.Core.Path.{_≡_, refl, sym, ap, ap₂, subst, _∙_, fun-ext}
-use mathlib.Core.Bool.{Bool, true, false, cond, _&&_, false≢true}
-use mathlib.Core.Logic.{_↔_, _≢_}
+use mathlib.Core.Bool.{Bool, true, false, cond}
+use mathlib.Core.Logic.{_↔_}
 use mathlib.Core.List.{List, [], _∷_}
 use lib.Dec.{eqb, ltb, leb}
 use lib.ListN.{getD, length}
@@ -14,7 +14,7 @@ use Rattle.bits.specs.Digits.{digit, below, expanded}
 use Rattle.bits.specs.Packed.{below-le, expanded-lt, expanded-value, expanded-other, expanded-only}
 use Rattle.bits.specs.Masks.{bits-below}
 use Rattle.encoding.specs.Fields.{has, written}
-use Rattle.encoding.specs.Layout.{start, follows, field, Laid}
+use Rattle.encoding.specs.Layout.{field, Laid}
 use Rattle.encoding.specs.Laws.{laid-start, laid-field, laid-written, fields-laid}
 use Rattle.refusal.specs.declared.Refusal.the-variants.{BadMessage}
 use Rattle.refusal.specs.declared.Answer.the-variants.{Accepted, Refused}
@@ -23,7 +23,7 @@ use Rattle.refusal.specs.Laws.{refusal-law, passing-law}
 use Rattle.policy.specs.declared.Sizes.{Sizes}
 use Rattle.message.specs.declared.Fields.{Fields}
 use Rattle.message.specs.declared.Event.{Event}
-use Rattle.message.specs.declared.Event.the-variants.{Observation, Alive}
+use Rattle.message.specs.declared.Event.the-variants.{Observation}
 use Rattle.message.specs.Format.{widths, map-of, values-at, component-of, minute-of, number-of, named-of, value-bytes, packed-at, packed-of, fields-of, length-of, good-alive, good-observation, all-written, good-fields, good-message, message-checks, answer-of, event-if, event-in}
 use Rattle.message.specs.Encoded.{Values, Is-event, is-observation, is-alive, is-alive-event, bytes-at, Is-message}
 use Rattle.message.specs.Fixes.{Message, meaning-of}

@@ -21,16 +21,15 @@ use Rattle.policy.specs.Laws.{accepted}
 use Rattle.message.specs.declared.Event.{Event}
 use Rattle.message.specs.declared.Decoded.{Decoded}
 use Rattle.message.specs.Format.{message-checks, answer-of as message-answer, decode-of}
-use Rattle.message.specs.Fixes.{Message, Fits, Well-formed, meaning-of}
+use Rattle.message.specs.Fixes.{Fits, Well-formed, meaning-of}
 use Rattle.message.specs.Laws.{decoded, decoded-answer, fits}
 use Rattle.knowledge.specs.Knowledge.{Knowledge, Sound, sound, admits, Sized as Long}
-use Rattle.knowledge.specs.Laws.{Limits, sound-law}
-use Rattle.knowledge.specs.Run.{held, sent}
-use Rattle.monitor.specs.declared.Answer.{Answer}
-use Rattle.monitor.specs.declared.Answer.the-variants.{Done, Received, Refused}
-use Rattle.monitor.specs.State.{State, lent, Outcome, unless, Sized, sizes-fit, sized, opened, settled, slip-checks, take-message, size-checks, record-checks, opening-checks, take-checks, open-state, receive}
+use Rattle.knowledge.specs.Laws.{sound-law}
+use Rattle.knowledge.specs.Run.{sent}
+use Rattle.monitor.specs.declared.Answer.the-variants.{Done, Refused}
+use Rattle.monitor.specs.State.{State, Outcome, unless, Sized, sizes-fit, sized, opened, settled, slip-checks, take-message, size-checks, record-checks, opening-checks, open-state, receive}
 use Rattle.monitor.specs.Checked.{Checks}
-use Rattle.monitor.specs.Laws.{knowledge-sized, sized-law}
+use Rattle.monitor.specs.Laws.{sized-law}
 use Rattle.monitor.proofs.Decoding.{Read, answered, read-policy}
 
 -- what comes after the first checks comes only where they pass

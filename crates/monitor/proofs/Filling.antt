@@ -1,8 +1,8 @@
 -- A buffer that a loop filled from the front: it is the table of what was written, or all zeros. Assumes nothing.
-use mathlib.Core.Path.{_≡_, refl, sym, _∙_}
+use mathlib.Core.Path.{_≡_, sym, _∙_}
 use mathlib.Core.List.{List}
-use Prim.Native.Nat.{ℕ, _≤_, _<_, zero-le}
-use lib.ListN.{length, getD, replicate, length-replicate}
+use Prim.Native.Nat.{ℕ, _<_, zero-le}
+use lib.ListN.{length, replicate, length-replicate}
 use lib.Seq.{ext-getD}
 use Rattle.rows.specs.Over.{Over}
 use Rattle.rows.specs.Laws.{zeros}

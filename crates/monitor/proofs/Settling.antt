@@ -1,14 +1,14 @@
 -- What the working functions leave, put together: a fresh state, and the state over what is known with a message. Assumes nothing.
-use mathlib.Core.Path.{_≡_, refl, sym, ap, ap₂, subst, _∙_}
-use mathlib.Core.Bool.{Bool, true, false, cond}
-use mathlib.Core.List.{List, [], _++_, append-nil}
-use Prim.Native.Nat.{ℕ, suc, _+_, _*_, _%_, _≤_, _<_}
+use mathlib.Core.Path.{_≡_, refl, sym, ap, ap₂, _∙_}
+use mathlib.Core.Bool.{true, cond}
+use mathlib.Core.List.{List, _++_, append-nil}
+use Prim.Native.Nat.{ℕ, suc, _+_, _*_, _%_, _≤_}
 use native.Mathlib.Numerals.{add-one}
 use lib.Dec.{eqb}
 use lib.ListN.{length, take, drop, replicate}
 use lib.Seq.{drop-length, take-length}
 use Rattle.logic.specs.Bools.{both}
-use Rattle.rows.specs.Grid.{table, table-length}
+use Rattle.rows.specs.Grid.{table}
 use Rattle.policy.specs.declared.Policy.{Policy}
 use Rattle.policy.specs.Proper.{Proper}
 use Rattle.message.specs.Fixes.{Message, Fits}
@@ -20,9 +20,8 @@ use Rattle.knowledge.specs.Run.{held, Steady-runs, Point-row}
 use Rattle.knowledge.specs.Runs.{runs-of}
 use Rattle.valuation.specs.Rows.{Points}
 use Rattle.valuation.specs.Sheets.{valuation-of, verdicts-of, standing}
-use Rattle.monitor.specs.declared.Answer.{Answer}
 use Rattle.monitor.specs.declared.Answer.the-variants.{Received}
-use Rattle.monitor.specs.State.{State, Outcome, lent, outcome, Sized, opened, rewritten, settled}
+use Rattle.monitor.specs.State.{Outcome, lent, outcome, Sized, opened, rewritten, settled}
 use Rattle.monitor.specs.Laws.{fresh-sound, sheet-lengths, knowledge-sized, blank-sheet, lengths}
 
 pub limits : (p : Policy) → Proper p → Limits (p .sizes)

@@ -6,7 +6,7 @@ use Rattle.kleene.specs.Truth.{Truth, unknown, true3, false3, not3, or3, _⊑_,
 use Rattle.mtl.specs.declared.Formula.{Formula}
 use Rattle.mtl.specs.Algebra.{three, two}
 use Rattle.mtl.specs.Reading.{World, seen, reading}
-use Rattle.mtl.specs.Related.{Kept, Alike, reading-kept}
+use Rattle.mtl.specs.Related.{Kept, reading-kept}
 
 -- ---- more knowledge keeps decided values
 

@@ -2,12 +2,11 @@
 -- nothing.
 use Prim.Native.Nat.{ℕ, zero, suc, _+_, _*_, _≤_, _<_}
 use mathlib.Core.Path.{_≡_, refl, sym, subst}
-use mathlib.Core.Bool.{Bool, true, false}
 use mathlib.Core.List.{List}
 use native.Mathlib.Omega.{arith}
 use native.Mathlib.Decide.{decLt}
 use lib.ListN.{length, getD}
-use Rattle.encoding.specs.Fields.{has, size}
+use Rattle.encoding.specs.Fields.{has}
 use Rattle.encoding.specs.Laws.{size-most}
 use Rattle.mtl.specs.declared.Formula.{Formula}
 use Rattle.mtl.specs.declared.Formula.the-variants as F

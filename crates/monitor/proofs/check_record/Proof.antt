@@ -8,10 +8,6 @@ use Rattle.monitor.proofs.Calls.{sizes-read, sizes-passed, record-long,
 use borrow.Author.Needs.{needs}
 use Rattle.monitor.proofs.check_record.Statement.{statement}
 use Rattle.monitor.proofs.check_record.Tie as tie
-use Rattle.monitor.proofs.check_record.Reads as reads
-use Rattle.monitor.proofs.check_record.Lts as lts
-use Rattle.knowledge.proofs.is_sound.Reads as is-sound-reads
-use Rattle.monitor.proofs.check_sizes.Reads as check-sizes-reads
 
 check-sizes-requires : tie.Need-check-sizes-requires
 check-sizes-requires c κs = search needs

@@ -7,10 +7,6 @@ use Rattle.monitor.proofs.Calls.{sizes-refused, sizes-misfit, sizes-fin
 use borrow.Author.Needs.{needs}
 use Rattle.monitor.proofs.check_sizes.Statement.{statement}
 use Rattle.monitor.proofs.check_sizes.Tie as tie
-use Rattle.monitor.proofs.check_sizes.Reads as reads
-use Rattle.monitor.proofs.check_sizes.Lts as lts
-use Rattle.monitor.proofs.fit.Reads as fit-reads
-use Rattle.policy.proofs.decode.Reads as decode-reads
 
 decode-requires : tie.Need-decode-requires
 decode-requires c κs = search needs

@@ -4,14 +4,12 @@ use mathlib.Core.Path.{_≡_, refl}
 use native.Mathlib.Omega.{arith}
 use Rattle.rows.specs.Laws.{untouched, one-more}
 use Rattle.monitor.proofs.Filling.{cleared}
-use Prim.Native.Nat.{ℕ, _+_, _-_, _%_, _≤_, zero-le}
+use Prim.Native.Nat.{_-_, _≤_, zero-le}
 use borrow.Author.Needs.{needs}
 use lib.ListN.{length}
 use Rattle.rows.specs.Over.{Over}
 use Rattle.monitor.proofs.clear_facts.Statement.{statement}
 use Rattle.monitor.proofs.clear_facts.Tie as tie
-use Rattle.monitor.proofs.clear_facts.Reads as reads
-use Rattle.monitor.proofs.clear_facts.Lts as lts
 
 abbrev Inv-loop : tie.InvT-loop
 Inv-loop facts₀ i₀ facts i = (i ≤ length facts₀) × Over (λ j. 0) 0 i facts₀ facts

@@ -4,7 +4,7 @@ use mathlib.Core.Path.{_≡_}
 use native.Mathlib.Omega.{arith}
 use Rattle.rows.specs.Laws.{untouched, one-more}
 use Rattle.monitor.proofs.Filling.{filled}
-use Prim.Native.Nat.{ℕ, _+_, _-_, _%_, _≤_, zero-le}
+use Prim.Native.Nat.{_+_, _-_, _%_, _≤_, zero-le}
 use borrow.Author.Needs.{needs}
 use lib.ListN.{length}
 use mathlib.Core.Bool.{cond}
@@ -13,9 +13,6 @@ use Rattle.knowledge.specs.Knowledge.{none}
 use Rattle.rows.specs.Over.{Over}
 use Rattle.monitor.proofs.clear_numbers.Statement.{statement}
 use Rattle.monitor.proofs.clear_numbers.Tie as tie
-use Rattle.monitor.proofs.clear_numbers.Reads as reads
-use Rattle.monitor.proofs.clear_numbers.Lts as lts
-use Rattle.monitor.proofs.fresh_number.Reads as fresh-number-reads
 
 abbrev Inv-loop : tie.InvT-loop
 Inv-loop numbers₀ minutes i₀ numbers i = (i ≤ length numbers₀) × Over (λ j. cond (eqb (j % (minutes + 1)) 0) 0 none) 0 i numbers₀ numbers

@@ -5,8 +5,6 @@ use Rattle.monitor.proofs.Fitting.{numbers-small, valuation-small, verd
 use borrow.Author.Needs.{needs}
 use Rattle.monitor.proofs.fit.Statement.{statement}
 use Rattle.monitor.proofs.fit.Tie as tie
-use Rattle.monitor.proofs.fit.Reads as reads
-use Rattle.monitor.proofs.fit.Lts as lts
 
 add-if1 : tie.Need-add-if1
 add-if1 c = search needs

@@ -3,8 +3,6 @@
 use borrow.Author.Tests.{eq-eqb, ne-eqb}
 use Rattle.monitor.proofs.fresh_number.Statement.{statement}
 use Rattle.monitor.proofs.fresh_number.Tie as tie
-use Rattle.monitor.proofs.fresh_number.Reads as reads
-use Rattle.monitor.proofs.fresh_number.Lts as lts
 
 returns : tie.Need-returns
 returns c = simp (eq-eqb _ _ (c .if1 .taken))

@@ -6,10 +6,6 @@ use Rattle.monitor.proofs.Decoding.{answered, read-policy}
 use borrow.Author.Needs.{needs}
 use Rattle.monitor.proofs.lookup.Statement.{statement}
 use Rattle.monitor.proofs.lookup.Tie as tie
-use Rattle.monitor.proofs.lookup.Reads as reads
-use Rattle.monitor.proofs.lookup.Lts as lts
-use Rattle.monitor.proofs.verdict_at.Reads as verdict-at-reads
-use Rattle.policy.proofs.decode.Reads as decode-reads
 
 decode-requires : tie.Need-decode-requires
 decode-requires c κs = search needs

@@ -6,10 +6,6 @@ use Rattle.monitor.proofs.Calls.{sizes-read, sizes-passed, open-refused
 use borrow.Author.Needs.{needs}
 use Rattle.monitor.proofs.open.Statement.{statement}
 use Rattle.monitor.proofs.open.Tie as tie
-use Rattle.monitor.proofs.open.Reads as reads
-use Rattle.monitor.proofs.open.Lts as lts
-use Rattle.monitor.proofs.check_sizes.Reads as check-sizes-reads
-use Rattle.monitor.proofs.refresh.Reads as refresh-reads
 
 check-sizes-requires : tie.Need-check-sizes-requires
 check-sizes-requires c κs = search needs

@@ -5,10 +5,6 @@ use Rattle.monitor.proofs.Calls.{record-read, record-sized, record-soun
 use borrow.Author.Needs.{needs}
 use Rattle.monitor.proofs.receive.Statement.{statement}
 use Rattle.monitor.proofs.receive.Tie as tie
-use Rattle.monitor.proofs.receive.Reads as reads
-use Rattle.monitor.proofs.receive.Lts as lts
-use Rattle.monitor.proofs.check_record.Reads as check-record-reads
-use Rattle.monitor.proofs.take_message.Reads as take-message-reads
 
 check-record-requires : tie.Need-check-record-requires
 check-record-requires c κs = search needs

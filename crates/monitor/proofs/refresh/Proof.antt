@@ -4,11 +4,6 @@ use Rattle.monitor.proofs.Settling.{fresh-needs, refreshed}
 use borrow.Author.Needs.{needs}
 use Rattle.monitor.proofs.refresh.Statement.{statement}
 use Rattle.monitor.proofs.refresh.Tie as tie
-use Rattle.monitor.proofs.refresh.Reads as reads
-use Rattle.monitor.proofs.refresh.Lts as lts
-use Rattle.monitor.proofs.clear_facts.Reads as clear-facts-reads
-use Rattle.monitor.proofs.clear_numbers.Reads as clear-numbers-reads
-use Rattle.monitor.proofs.rewrite_sheets.Reads as rewrite-sheets-reads
 
 clear-numbers-requires : tie.Need-clear-numbers-requires
 clear-numbers-requires c κs = search needs

@@ -4,11 +4,6 @@ use Rattle.monitor.proofs.Settling.{row-needs, rewrites}
 use borrow.Author.Needs.{needs}
 use Rattle.monitor.proofs.rewrite_sheets.Statement.{statement}
 use Rattle.monitor.proofs.rewrite_sheets.Tie as tie
-use Rattle.monitor.proofs.rewrite_sheets.Reads as reads
-use Rattle.monitor.proofs.rewrite_sheets.Lts as lts
-use Rattle.knowledge.proofs.point_row.Reads as point-row-reads
-use Rattle.valuation.proofs.conclude.Reads as conclude-reads
-use Rattle.valuation.proofs.evaluate.Reads as evaluate-reads
 
 point-row-requires : tie.Need-point-row-requires
 point-row-requires c κs =

@@ -5,10 +5,6 @@ use Rattle.monitor.proofs.Settling.{next-needs, stored-settled}
 use borrow.Author.Needs.{needs}
 use Rattle.monitor.proofs.settle_message.Statement.{statement}
 use Rattle.monitor.proofs.settle_message.Tie as tie
-use Rattle.monitor.proofs.settle_message.Reads as reads
-use Rattle.monitor.proofs.settle_message.Lts as lts
-use Rattle.knowledge.proofs.store.Reads as store-reads
-use Rattle.monitor.proofs.rewrite_sheets.Reads as rewrite-sheets-reads
 
 store-requires : tie.Need-store-requires
 store-requires c κs = search needs

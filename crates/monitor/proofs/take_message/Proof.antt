@@ -9,11 +9,6 @@ use Rattle.monitor.proofs.Calls.{hear, heard-fits, message-answered, me
 use borrow.Author.Needs.{needs}
 use Rattle.monitor.proofs.take_message.Statement.{statement}
 use Rattle.monitor.proofs.take_message.Tie as tie
-use Rattle.monitor.proofs.take_message.Reads as reads
-use Rattle.monitor.proofs.take_message.Lts as lts
-use Rattle.knowledge.proofs.admits_message.Reads as admits-message-reads
-use Rattle.message.proofs.decode.Reads as decode-reads
-use Rattle.monitor.proofs.settle_message.Reads as settle-message-reads
 
 decode-requires : tie.Need-decode-requires
 decode-requires c κs = search needs

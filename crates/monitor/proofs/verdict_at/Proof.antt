@@ -7,9 +7,6 @@ use Rattle.monitor.proofs.Looking.{sheet-small, row-small, wrong-size, 
 use borrow.Author.Needs.{needs}
 use Rattle.monitor.proofs.verdict_at.Statement.{statement}
 use Rattle.monitor.proofs.verdict_at.Tie as tie
-use Rattle.monitor.proofs.verdict_at.Reads as reads
-use Rattle.monitor.proofs.verdict_at.Lts as lts
-use Rattle.monitor.proofs.verdict_of.Reads as verdict-of-reads
 
 mul-if1 : tie.Need-mul-if1
 mul-if1 c =

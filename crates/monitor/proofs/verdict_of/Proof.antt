@@ -5,8 +5,6 @@ use Rattle.monitor.specs.Codes.{code-of-blank}
 use borrow.Author.Needs.{needs}
 use Rattle.monitor.proofs.verdict_of.Statement.{statement}
 use Rattle.monitor.proofs.verdict_of.Tie as tie
-use Rattle.monitor.proofs.verdict_of.Reads as reads
-use Rattle.monitor.proofs.verdict_of.Lts as lts
 
 returns : tie.Need-returns
 returns c = search needs

@@ -5,11 +5,6 @@ use Rattle.monitor_c.specs.Returned.{look-number, look-detail}
 use borrow.Author.Needs.{needs}
 use Rattle.monitor_c.proofs.zankezurt_lookup.Statement.{statement}
 use Rattle.monitor_c.proofs.zankezurt_lookup.Tie as tie
-use Rattle.monitor_c.proofs.zankezurt_lookup.Reads as reads
-use Rattle.monitor_c.proofs.zankezurt_lookup.Lts as lts
-use Rattle.monitor.proofs.lookup.Reads as lookup-reads
-use Rattle.monitor_c.proofs.look_detail.Reads as look-detail-reads
-use Rattle.monitor_c.proofs.look_number.Reads as look-number-reads
 
 lookup-requires : tie.Need-lookup-requires
 lookup-requires c κs = search needs

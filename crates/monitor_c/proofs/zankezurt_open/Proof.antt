@@ -4,11 +4,6 @@ use Rattle.monitor_c.proofs.Handing.{handed}
 use borrow.Author.Needs.{needs}
 use Rattle.monitor_c.proofs.zankezurt_open.Statement.{statement}
 use Rattle.monitor_c.proofs.zankezurt_open.Tie as tie
-use Rattle.monitor_c.proofs.zankezurt_open.Reads as reads
-use Rattle.monitor_c.proofs.zankezurt_open.Lts as lts
-use Rattle.monitor.proofs.open.Reads as open-reads
-use Rattle.monitor_c.proofs.answer_detail.Reads as answer-detail-reads
-use Rattle.monitor_c.proofs.answer_number.Reads as answer-number-reads
 
 open-requires : tie.Need-open-requires
 open-requires c κs = search needs

@@ -4,11 +4,6 @@ use Rattle.monitor_c.proofs.Handing.{handed}
 use borrow.Author.Needs.{needs}
 use Rattle.monitor_c.proofs.zankezurt_receive.Statement.{statement}
 use Rattle.monitor_c.proofs.zankezurt_receive.Tie as tie
-use Rattle.monitor_c.proofs.zankezurt_receive.Reads as reads
-use Rattle.monitor_c.proofs.zankezurt_receive.Lts as lts
-use Rattle.monitor.proofs.receive.Reads as receive-reads
-use Rattle.monitor_c.proofs.answer_detail.Reads as answer-detail-reads
-use Rattle.monitor_c.proofs.answer_number.Reads as answer-number-reads
 
 receive-requires : tie.Need-receive-requires
 receive-requires c κs = search needs

@@ -1,14 +1,9 @@
 -- Each minute is worked once. Assumes nothing.
-use Prim.Native.Nat.{_-_, _+_, _≤_}
-use mathlib.Core.Path.{_≡_}
+use Prim.Native.Nat.{_-_, _≤_}
 use lib.ListN.{length}
 use borrow.Author.Needs.{needs}
 use Rattle.valuation_vectors.proofs.defined.Statement.{statement}
 use Rattle.valuation_vectors.proofs.defined.Tie as tie
-use Rattle.valuation_vectors.proofs.defined.Reads as reads
-use Rattle.valuation_vectors.proofs.defined.Lts as lts
-use Rattle.valuation_vectors.proofs.defined_at.Reads as defined-at-reads
-use Rattle.valuation_vectors.proofs.run.Reads as run-reads
 
 abbrev Inv-loop : tie.InvT-loop
 Inv-loop line points facts sheet m first second row₀ t₀ row t = t ≤ length points

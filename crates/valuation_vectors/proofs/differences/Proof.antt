@@ -1,14 +1,10 @@
 -- At most one difference a minute. Assumes nothing.
-use Prim.Native.Nat.{_-_, _+_, _≤_}
-use mathlib.Core.Path.{_≡_}
-use lib.ListN.{length}
+use Prim.Native.Nat.{_-_, _≤_}
 use borrow.Author.Needs.{needs}
 use mathlib.Core.Logic.{⊎-elim}
 use native.Mathlib.Omega.{arith}
 use Rattle.valuation_vectors.proofs.differences.Statement.{statement}
 use Rattle.valuation_vectors.proofs.differences.Tie as tie
-use Rattle.valuation_vectors.proofs.differences.Reads as reads
-use Rattle.valuation_vectors.proofs.differences.Lts as lts
 
 abbrev Inv-loop : tie.InvT-loop
 Inv-loop x y minutes n₀ t₀ n t = (t ≤ minutes) × (n ≤ t)

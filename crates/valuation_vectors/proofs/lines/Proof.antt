@@ -1,17 +1,11 @@
 -- Each line has at most 1,024 differences. Assumes nothing.
-use Prim.Native.Nat.{_-_, _+_, _≤_}
+use Prim.Native.Nat.{_-_, _≤_}
 use mathlib.Core.Path.{_≡_}
 use lib.ListN.{length}
 use borrow.Author.Needs.{needs}
 use Prim.Native.Nat.{_*_}
 use Rattle.valuation_vectors.proofs.lines.Statement.{statement}
 use Rattle.valuation_vectors.proofs.lines.Tie as tie
-use Rattle.valuation_vectors.proofs.lines.Reads as reads
-use Rattle.valuation_vectors.proofs.lines.Lts as lts
-use Rattle.valuation_vectors.proofs.compare.Reads as compare-reads
-use Rattle.valuation_vectors.proofs.line_of.Reads as line-of-reads
-use Rattle.valuation_vectors.proofs.next.Reads as next-reads
-use Rattle.valuation_vectors.proofs.show_row.Reads as show-row-reads
 
 abbrev Inv-loop : tie.InvT-loop
 Inv-loop points facts seed m sheet₀ other₀ x₀ n₀ k₀ sheet other x n k = (k ≤ 20) × (n ≤ 1024 * k) × (length sheet ≡ 20480) × (length other ≡ 20480)

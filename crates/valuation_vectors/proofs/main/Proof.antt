@@ -1,16 +1,9 @@
 -- Each batch has at most 20,480 differences. Assumes nothing.
-use Prim.Native.Nat.{_-_, _+_, _≤_}
-use mathlib.Core.Path.{_≡_}
-use lib.ListN.{length}
+use Prim.Native.Nat.{_-_, _≤_}
 use borrow.Author.Needs.{needs}
 use Prim.Native.Nat.{_*_}
 use Rattle.valuation_vectors.proofs.main.Statement.{statement}
 use Rattle.valuation_vectors.proofs.main.Tie as tie
-use Rattle.valuation_vectors.proofs.main.Reads as reads
-use Rattle.valuation_vectors.proofs.main.Lts as lts
-use Rattle.io.proofs.write_all.Reads as write-all-reads
-use Rattle.valuation_vectors.proofs.batch.Reads as batch-reads
-use Rattle.valuation_vectors.proofs.show.Reads as show-reads
 
 abbrev Inv-loop : tie.InvT-loop
 Inv-loop n₀ number₀ t3 t4 t5 n number = (number ≤ 60) × (n ≤ 20480 * number)

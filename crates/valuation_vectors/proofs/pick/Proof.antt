@@ -1,7 +1,5 @@
 -- A remainder is below its divisor. Assumes nothing.
-use Prim.Native.Nat.{_-_, _+_, _≤_}
-use mathlib.Core.Path.{_≡_}
-use lib.ListN.{length}
+use Prim.Native.Nat.{_-_}
 use borrow.Author.Needs.{needs}
 use Prim.Native.Nat.{_/_}
 use native.Mathlib.Nat.{mod-lt}
@@ -9,8 +7,6 @@ use native.Mathlib.Omega.{arith}
 use borrow.Author.Needs.{needs}
 use Rattle.valuation_vectors.proofs.pick.Statement.{statement}
 use Rattle.valuation_vectors.proofs.pick.Tie as tie
-use Rattle.valuation_vectors.proofs.pick.Reads as reads
-use Rattle.valuation_vectors.proofs.pick.Lts as lts
 
 rem-result : tie.Need-rem-result
 rem-result c = search needs

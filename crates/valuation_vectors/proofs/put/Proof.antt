@@ -1,12 +1,10 @@
 -- Each cell is written once. Assumes nothing.
-use Prim.Native.Nat.{_-_, _+_, _≤_}
+use Prim.Native.Nat.{_-_, _≤_}
 use mathlib.Core.Path.{_≡_}
 use lib.ListN.{length}
 use borrow.Author.Needs.{needs}
 use Rattle.valuation_vectors.proofs.put.Statement.{statement}
 use Rattle.valuation_vectors.proofs.put.Tie as tie
-use Rattle.valuation_vectors.proofs.put.Reads as reads
-use Rattle.valuation_vectors.proofs.put.Lts as lts
 
 abbrev Inv-loop : tie.InvT-loop
 Inv-loop cells₀ row t₀ cells t = (t ≤ length cells₀) × (length cells ≡ length cells₀)

@@ -1,16 +1,13 @@
 -- A store keeps the length. Assumes nothing.
-use Prim.Native.Nat.{_-_, _+_, _≤_}
+use Prim.Native.Nat.{_-_, _≤_}
 use mathlib.Core.Path.{_≡_}
 use lib.ListN.{length}
 use borrow.Author.Needs.{needs}
 use Prim.Native.Nat.{ℕ}
 use native.Mathlib.Omega.{arith}
-use lib.ListN.{length-replicate, length-set}
+use lib.ListN.{length-replicate}
 use Rattle.valuation_vectors.proofs.random_facts.Statement.{statement}
 use Rattle.valuation_vectors.proofs.random_facts.Tie as tie
-use Rattle.valuation_vectors.proofs.random_facts.Reads as reads
-use Rattle.valuation_vectors.proofs.random_facts.Lts as lts
-use Rattle.valuation_vectors.proofs.next.Reads as next-reads
 
 abbrev Inv-loop : tie.InvT-loop
 Inv-loop seed facts₀ x₀ i₀ facts x i = (i ≤ 2048) × (length facts ≡ 2048)

@@ -1,5 +1,5 @@
 -- A store keeps the length. Assumes nothing.
-use Prim.Native.Nat.{_-_, _+_, _≤_}
+use Prim.Native.Nat.{_-_, _≤_}
 use mathlib.Core.Path.{_≡_}
 use lib.ListN.{length}
 use borrow.Author.Needs.{needs}
@@ -8,10 +8,6 @@ use native.Mathlib.Omega.{arith}
 use lib.ListN.{length-replicate}
 use Rattle.valuation_vectors.proofs.random_points.Statement.{statement}
 use Rattle.valuation_vectors.proofs.random_points.Tie as tie
-use Rattle.valuation_vectors.proofs.random_points.Reads as reads
-use Rattle.valuation_vectors.proofs.random_points.Lts as lts
-use Rattle.valuation_vectors.proofs.next.Reads as next-reads
-use Rattle.valuation_vectors.proofs.pick.Reads as pick-reads
 
 abbrev Inv-loop : tie.InvT-loop
 Inv-loop seed points₀ x₀ t₀ points x t = (t ≤ 1024) × (length points ≡ 1024)

@@ -1,13 +1,9 @@
 -- Each code is printed once. Assumes nothing.
-use Prim.Native.Nat.{_-_, _+_, _≤_}
-use mathlib.Core.Path.{_≡_}
+use Prim.Native.Nat.{_-_, _≤_}
 use lib.ListN.{length}
 use borrow.Author.Needs.{needs}
 use Rattle.valuation_vectors.proofs.show_codes.Statement.{statement}
 use Rattle.valuation_vectors.proofs.show_codes.Tie as tie
-use Rattle.valuation_vectors.proofs.show_codes.Reads as reads
-use Rattle.valuation_vectors.proofs.show_codes.Lts as lts
-use Rattle.valuation_vectors.proofs.show_code.Reads as show-code-reads
 
 abbrev Inv-loop : tie.InvT-loop
 Inv-loop row t₀ t = t ≤ length row

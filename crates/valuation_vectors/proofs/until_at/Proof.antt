@@ -1,17 +1,8 @@
 -- The minutes of the interval are passed once. Assumes nothing.
 use Prim.Native.Nat.{_-_, _+_, _≤_}
-use mathlib.Core.Path.{_≡_}
-use lib.ListN.{length}
 use borrow.Author.Needs.{needs}
 use Rattle.valuation_vectors.proofs.until_at.Statement.{statement}
 use Rattle.valuation_vectors.proofs.until_at.Tie as tie
-use Rattle.valuation_vectors.proofs.until_at.Reads as reads
-use Rattle.valuation_vectors.proofs.until_at.Lts as lts
-use Rattle.valuation_vectors.proofs.begins.Reads as begins-reads
-use Rattle.valuation_vectors.proofs.code.Reads as code-reads
-use Rattle.valuation_vectors.proofs.goes_on.Reads as goes-on-reads
-use Rattle.valuation_vectors.proofs.greater.Reads as greater-reads
-use Rattle.valuation_vectors.proofs.lesser.Reads as lesser-reads
 
 abbrev Inv-loop : tie.InvT-loop
 Inv-loop points left right lower upper t any₀ all₀ on₀ any all on = on ≤ upper + 1

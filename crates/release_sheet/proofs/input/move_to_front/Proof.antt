@@ -2,7 +2,6 @@
 -- stays. The measure is what is left to move. Assumes nothing.
 use Prim.Native.Nat.{_+_, _-_, _≤_}
 use mathlib.Core.Path.{_≡_}
-use native.Mathlib.Omega.{arith}
 use borrow.Author.Needs.{needs}
 use lib.ListN.{length}
 use Rattle.release_sheet.proofs.input.move_to_front.Statement.{statement}
