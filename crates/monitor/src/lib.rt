@@ -138,7 +138,8 @@ fn check_record(
     valuation: usize,
     verdicts: usize,
 ) -> Decoded
-    ensures { λ r. ⌜ Checks (record-checks (now (policy .entry)) (held (now (numbers .entry)) (now (facts .entry))) valuation verdicts) (now (policy .entry)) r ⌝ }
+    ensures { λ r. ⌜ Checks (record-checks (now (policy .entry)) (held (now (numbers .entry)) (now (facts .entry))) valuation verdicts)
+        (now (policy .entry)) r ⌝ }
 {
     let checked = check_sizes(policy, numbers.len(), facts.len(), valuation, verdicts);
     let answer = checked.answer;
@@ -167,7 +168,8 @@ fn fresh_number(place: usize) -> u16
 
 fn clear_numbers(numbers: &mut [u16], minutes: usize)
     requires { ⌜ minutes ≤ 1024 ⌝ }
-    ensures { λ _. ⌜ now (numbers .exit) ≡ table (length (now (numbers .entry))) (λ i. cond (eqb (i % (minutes + 1)) 0) 0 none) ⌝ }
+    ensures { λ _. ⌜ now (numbers .exit)
+        ≡ table (length (now (numbers .entry))) (λ i. cond (eqb (i % (minutes + 1)) 0) 0 none) ⌝ }
 {
     let mut i = 0;
     while i < numbers.len() {
@@ -194,8 +196,11 @@ fn rewrite_sheets(
     valuation: &mut [u8],
     verdicts: &mut [u8],
 ) -> usize
-    requires { ⌜ (Proper policy) × Sized policy (lent (now numbers) (now facts) (now valuation) (now verdicts)) × Sound (policy .sizes) (held (now numbers) (now facts)) ⌝ }
-    ensures { λ r. ⌜ outcome (Answer.Received r) (now (numbers .entry)) (now (facts .entry)) (now (valuation .exit)) (now (verdicts .exit)) ≡ rewritten policy (held (now (numbers .entry)) (now (facts .entry))) ⌝ }
+    requires { ⌜ (Proper policy)
+        × Sized policy (lent (now numbers) (now facts) (now valuation) (now verdicts))
+        × Sound (policy .sizes) (held (now numbers) (now facts)) ⌝ }
+    ensures { λ r. ⌜ outcome (Answer.Received r) (now (numbers .entry)) (now (facts .entry)) (now (valuation .exit)) (now (verdicts .exit))
+        ≡ rewritten policy (held (now (numbers .entry)) (now (facts .entry))) ⌝ }
 {
     let sizes = policy.sizes;
     let points = knowledge::point_row(sizes, numbers);
@@ -212,7 +217,8 @@ fn refresh(
     verdicts: &mut [u8],
 )
     requires { ⌜ (Proper policy) × Sized policy (lent (now numbers) (now facts) (now valuation) (now verdicts)) ⌝ }
-    ensures { λ _. ⌜ lent (now (numbers .exit)) (now (facts .exit)) (now (valuation .exit)) (now (verdicts .exit)) ≡ opened policy ⌝ }
+    ensures { λ _. ⌜ lent (now (numbers .exit)) (now (facts .exit)) (now (valuation .exit)) (now (verdicts .exit))
+        ≡ opened policy ⌝ }
 {
     let sizes = policy.sizes;
     clear_numbers(numbers, sizes.minutes);
@@ -228,7 +234,8 @@ pub fn open(
     valuation: &mut [u8],
     verdicts: &mut [u8],
 ) -> Answer
-    ensures { λ r. ⌜ outcome r (now (numbers .exit)) (now (facts .exit)) (now (valuation .exit)) (now (verdicts .exit)) ≡ open-state (now (policy .entry)) (lent (now (numbers .entry)) (now (facts .entry)) (now (valuation .entry)) (now (verdicts .entry))) ⌝ }
+    ensures { λ r. ⌜ outcome r (now (numbers .exit)) (now (facts .exit)) (now (valuation .exit)) (now (verdicts .exit))
+        ≡ open-state (now (policy .entry)) (lent (now (numbers .entry)) (now (facts .entry)) (now (valuation .entry)) (now (verdicts .entry))) ⌝ }
 {
     let checked = check_sizes(
         policy,
@@ -258,8 +265,12 @@ fn settle_message(
     valuation: &mut [u8],
     verdicts: &mut [u8],
 ) -> usize
-    requires { ⌜ (Proper policy) × Sized policy (lent (now numbers) (now facts) (now valuation) (now verdicts)) × Fits (policy .sizes) (sent component event) × (admits (policy .sizes) (held (now numbers) (now facts)) (sent component event) ≡ true) ⌝ }
-    ensures { λ r. ⌜ outcome (Answer.Received r) (now (numbers .exit)) (now (facts .exit)) (now (valuation .exit)) (now (verdicts .exit)) ≡ settled policy (lent (now (numbers .entry)) (now (facts .entry)) (now (valuation .entry)) (now (verdicts .entry))) (sent component event) ⌝ }
+    requires { ⌜ (Proper policy)
+        × Sized policy (lent (now numbers) (now facts) (now valuation) (now verdicts))
+        × Fits (policy .sizes) (sent component event)
+        × (admits (policy .sizes) (held (now numbers) (now facts)) (sent component event) ≡ true) ⌝ }
+    ensures { λ r. ⌜ outcome (Answer.Received r) (now (numbers .exit)) (now (facts .exit)) (now (valuation .exit)) (now (verdicts .exit))
+        ≡ settled policy (lent (now (numbers .entry)) (now (facts .entry)) (now (valuation .entry)) (now (verdicts .entry))) (sent component event) ⌝ }
 {
     let sizes = policy.sizes;
     knowledge::store(sizes, numbers, facts, component, event);
@@ -275,8 +286,12 @@ fn take_message(
     valuation: &mut [u8],
     verdicts: &mut [u8],
 ) -> Answer
-    requires { ⌜ (Proper policy) × Sized policy (lent (now numbers) (now facts) (now valuation) (now verdicts)) × Sound (policy .sizes) (held (now numbers) (now facts)) ⌝ }
-    ensures { λ r. ⌜ outcome r (now (numbers .exit)) (now (facts .exit)) (now (valuation .exit)) (now (verdicts .exit)) ≡ take-message policy (lent (now (numbers .entry)) (now (facts .entry)) (now (valuation .entry)) (now (verdicts .entry))) (now (message .entry)) ⌝ }
+    requires { ⌜ (Proper policy)
+        × Sized policy (lent (now numbers) (now facts) (now valuation) (now verdicts))
+        × Sound (policy .sizes) (held (now numbers) (now facts)) ⌝ }
+    ensures { λ r. ⌜ outcome r (now (numbers .exit)) (now (facts .exit)) (now (valuation .exit)) (now (verdicts .exit))
+        ≡ take-message policy
+        (lent (now (numbers .entry)) (now (facts .entry)) (now (valuation .entry)) (now (verdicts .entry))) (now (message .entry)) ⌝ }
 {
     let sizes = policy.sizes;
     let decoded = message::decode(message, sizes);
@@ -312,7 +327,9 @@ pub fn receive(
     valuation: &mut [u8],
     verdicts: &mut [u8],
 ) -> Answer
-    ensures { λ r. ⌜ outcome r (now (numbers .exit)) (now (facts .exit)) (now (valuation .exit)) (now (verdicts .exit)) ≡ receive (now (policy .entry)) (lent (now (numbers .entry)) (now (facts .entry)) (now (valuation .entry)) (now (verdicts .entry))) (now (message .entry)) ⌝ }
+    ensures { λ r. ⌜ outcome r (now (numbers .exit)) (now (facts .exit)) (now (valuation .exit)) (now (verdicts .exit))
+        ≡ receive (now (policy .entry))
+        (lent (now (numbers .entry)) (now (facts .entry)) (now (valuation .entry)) (now (verdicts .entry))) (now (message .entry)) ⌝ }
 {
     let checked = check_record(policy, numbers, facts, valuation.len(), verdicts.len());
     let answer = checked.answer;
