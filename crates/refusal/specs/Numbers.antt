@@ -1,6 +1,8 @@
 -- 01, "Reasons to turn a call away": the number and the place of each.
-use Prim.Native.Nat.{ℕ, zero, suc}
+use Prim.Native.Nat.{ℕ}
 use mathlib.Core.Path.{_≡_, refl}
+use mathlib.Core.List.{[], _∷_}
+use lib.ListN.{getD}
 use Rattle.refusal.specs.declared.Refusal.{Refusal}
 use Rattle.refusal.specs.declared.Refusal.the-variants.{TruncatedPolicy, BadHeading, BadSubformula, RuleCount, BufferSize, CorruptKnowledge, TruncatedMessage, BadMessage, Conflict, OutOfRange}
 
@@ -29,19 +31,10 @@ refusal-place BadMessage = 0
 refusal-place Conflict = 0
 refusal-place OutOfRange = 0
 
--- the refusal with this number and place
+-- the refusal with this number and place, the numbers in order from 1
 abbrev pub refusal-of : ℕ → ℕ → Refusal
-refusal-of zero at = OutOfRange
-refusal-of (suc zero) at = TruncatedPolicy at
-refusal-of (suc (suc zero)) at = BadHeading at
-refusal-of (suc (suc (suc zero))) at = BadSubformula at
-refusal-of (suc (suc (suc (suc zero)))) at = RuleCount
-refusal-of (suc (suc (suc (suc (suc zero))))) at = BufferSize
-refusal-of (suc (suc (suc (suc (suc (suc zero)))))) at = CorruptKnowledge
-refusal-of (suc (suc (suc (suc (suc (suc (suc zero))))))) at = TruncatedMessage at
-refusal-of (suc (suc (suc (suc (suc (suc (suc (suc zero)))))))) at = BadMessage
-refusal-of (suc (suc (suc (suc (suc (suc (suc (suc (suc zero))))))))) at = Conflict
-refusal-of (suc (suc (suc (suc (suc (suc (suc (suc (suc (suc n)))))))))) at = OutOfRange
+refusal-of n at =
+    getD (OutOfRange ∷ TruncatedPolicy at ∷ BadHeading at ∷ BadSubformula at ∷ RuleCount ∷ BufferSize ∷ CorruptKnowledge ∷ TruncatedMessage at ∷ BadMessage ∷ Conflict ∷ OutOfRange ∷ []) n OutOfRange
 
 -- it is the only one
 pub only-one : (r : Refusal) → refusal-of (refusal-number r) (refusal-place r) ≡ r
