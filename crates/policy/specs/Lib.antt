@@ -1,6 +1,7 @@
 -- The policy: its format, and the laws of what is read.
 pub mod Causes
 pub mod Encoded
+pub mod Examples
 pub mod Format
 pub mod Kinds
 pub mod Laws
