@@ -56,7 +56,9 @@ fn show_wide(words: &[u32]) {
 
 // A digit for each minute: 1 a time point, 2 none, 0 unknown.
 fn show_row(sizes: Sizes, numbers: &[u16])
-    requires { ⌜ Limits sizes × (length (now numbers) ≡ sizes .components * suc (sizes .minutes)) × Steady-runs sizes (now numbers) ⌝ }
+    requires { ⌜ Limits sizes
+        × (length (now numbers) ≡ sizes .components * suc (sizes .minutes))
+        × Steady-runs sizes (now numbers) ⌝ }
 {
     let row = knowledge::point_row(sizes, numbers);
     let minutes = sizes.minutes;
@@ -74,7 +76,10 @@ fn show_refusal(r: Refusal) {
 
 // Offers a message in range to sound knowledge.
 fn offer(sizes: Sizes, numbers: &mut [u16], facts: &mut [u32], component: usize, event: Event)
-    requires { ⌜ Limits sizes × Sized sizes (held (now numbers) (now facts)) × Sound sizes (held (now numbers) (now facts)) × Fits sizes (sent component event) ⌝ }
+    requires { ⌜ Limits sizes
+        × Sized sizes (held (now numbers) (now facts))
+        × Sound sizes (held (now numbers) (now facts))
+        × Fits sizes (sent component event) ⌝ }
 {
     if !knowledge::admits_message(sizes, numbers, facts, component, event) {
         io::write_all(1, b" conflict");
@@ -114,7 +119,11 @@ fn show_parts(
     numbers: &mut [u16],
     facts: &mut [u32],
 )
-    requires { ⌜ (from < 16) × (length (now message) ≤ 255) × Limits sizes × (length (now numbers) ≤ 2050) × Sized sizes (held (now numbers) (now facts)) ⌝ }
+    requires { ⌜ (from < 16)
+        × (length (now message) ≤ 255)
+        × Limits sizes
+        × (length (now numbers) ≤ 2050)
+        × Sized sizes (held (now numbers) (now facts)) ⌝ }
 {
     let at = from + message.len();
     hex_lines::bytes_from(line, from, message);

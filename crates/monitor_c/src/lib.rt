@@ -66,7 +66,9 @@ pub extern "C" fn zankezurt_open(
     verdicts: &mut [u8],
     detail: &mut usize,
 ) -> u8
-    ensures { λ r. ⌜ _≡_ {A = Returned} (record { number = r; detail = now (detail .exit); state = lent (now (numbers .exit)) (now (facts .exit)) (now (valuation .exit)) (now (verdicts .exit)) }) (returned (open-state (now (policy .entry)) (lent (now (numbers .entry)) (now (facts .entry)) (now (valuation .entry)) (now (verdicts .entry))))) ⌝ }
+    ensures { λ r. ⌜ _≡_ {A = Returned}
+        (record { number = r; detail = now (detail .exit); state = lent (now (numbers .exit)) (now (facts .exit)) (now (valuation .exit)) (now (verdicts .exit)) })
+        (returned (open-state (now (policy .entry)) (lent (now (numbers .entry)) (now (facts .entry)) (now (valuation .entry)) (now (verdicts .entry))))) ⌝ }
 {
     let answer = monitor::open(policy, numbers, facts, valuation, verdicts);
     *detail = answer_detail(answer);
@@ -84,7 +86,9 @@ pub extern "C" fn zankezurt_receive(
     verdicts: &mut [u8],
     detail: &mut usize,
 ) -> u8
-    ensures { λ r. ⌜ _≡_ {A = Returned} (record { number = r; detail = now (detail .exit); state = lent (now (numbers .exit)) (now (facts .exit)) (now (valuation .exit)) (now (verdicts .exit)) }) (returned (receive (now (policy .entry)) (lent (now (numbers .entry)) (now (facts .entry)) (now (valuation .entry)) (now (verdicts .entry))) (now (message .entry)))) ⌝ }
+    ensures { λ r. ⌜ _≡_ {A = Returned}
+        (record { number = r; detail = now (detail .exit); state = lent (now (numbers .exit)) (now (facts .exit)) (now (valuation .exit)) (now (verdicts .exit)) })
+        (returned (receive (now (policy .entry)) (lent (now (numbers .entry)) (now (facts .entry)) (now (valuation .entry)) (now (verdicts .entry))) (now (message .entry)))) ⌝ }
 {
     let answer = monitor::receive(policy, message, numbers, facts, valuation, verdicts);
     *detail = answer_detail(answer);

@@ -138,7 +138,10 @@ fn receive_all(
     valuation: &mut [u8],
     verdicts: &mut [u8],
 ) -> Tally
-    requires { ⌜ Fits parts × Largest (now numbers) (now facts) (now valuation) (now verdicts) × (window .at ≤ window .end) × (window .end ≤ length (now buffer)) ⌝ }
+    requires { ⌜ Fits parts
+        × Largest (now numbers) (now facts) (now valuation) (now verdicts)
+        × (window .at ≤ window .end)
+        × (window .end ≤ length (now buffer)) ⌝ }
 {
     let mut tally = Tally {
         taken: 0,
@@ -179,7 +182,11 @@ fn wide(b: u8) -> usize {
 
 // The verdicts of one minute, by rule.
 fn put_minute(verdicts: &[u8], parts: Parts, minute: usize, text: &mut [u8], page: Page) -> Page
-    requires { ⌜ Fits parts × (length (now verdicts) ≡ 8192) × (minute < parts .minutes) × (page .at ≤ length (now text)) × (64 ≤ length (now text)) ⌝ }
+    requires { ⌜ Fits parts
+        × (length (now verdicts) ≡ 8192)
+        × (minute < parts .minutes)
+        × (page .at ≤ length (now text))
+        × (64 ≤ length (now text)) ⌝ }
     ensures { λ r. ⌜ r .at ≤ length (now (text .entry)) ⌝ }
 {
     let rules = parts.rules;
@@ -232,7 +239,11 @@ fn watch(
     verdicts: &mut [u8],
     text: &mut [u8],
 )
-    requires { ⌜ Fits parts × Largest (now numbers) (now facts) (now valuation) (now verdicts) × (window .at ≤ window .end) × (window .end ≤ length (now buffer)) × (64 ≤ length (now text)) ⌝ }
+    requires { ⌜ Fits parts
+        × Largest (now numbers) (now facts) (now valuation) (now verdicts)
+        × (window .at ≤ window .end)
+        × (window .end ≤ length (now buffer))
+        × (64 ≤ length (now text)) ⌝ }
 {
     let tally = receive_all(
         policy,
@@ -267,7 +278,10 @@ fn run(
     verdicts: &mut [u8],
     text: &mut [u8],
 )
-    requires { ⌜ Largest (now numbers) (now facts) (now valuation) (now verdicts) × (window .at ≤ window .end) × (window .end ≤ length (now buffer)) × (64 ≤ length (now text)) ⌝ }
+    requires { ⌜ Largest (now numbers) (now facts) (now valuation) (now verdicts)
+        × (window .at ≤ window .end)
+        × (window .end ≤ length (now buffer))
+        × (64 ≤ length (now text)) ⌝ }
 {
     let parts = parts_of(policy);
     let answer = open_parts(policy, parts, numbers, facts, valuation, verdicts);

@@ -262,7 +262,13 @@ fn run(sheet: &[u8], i: usize, minutes: usize) -> &[u8]
 }
 
 fn worked(line: Line, points: &[u8], facts: &[u32], sheet: &[u8]) -> [u8; 1024]
-    requires { ⌜ (length (now points) ≤ 1024) × (length (now facts) ≡ 2 * length (now points)) × (length (now sheet) ≡ 20480) × (line .first < 20) × (line .second < 20) × (line .lower ≤ 1023) × (line .upper ≤ 1023) ⌝ }
+    requires { ⌜ (length (now points) ≤ 1024)
+        × (length (now facts) ≡ 2 * length (now points))
+        × (length (now sheet) ≡ 20480)
+        × (line .first < 20)
+        × (line .second < 20)
+        × (line .lower ≤ 1023)
+        × (line .upper ≤ 1023) ⌝ }
 {
     let m = points.len();
     let kind = line.kind;
@@ -333,7 +339,12 @@ fn defined_at(line: Line, points: &[u8], facts: &[u32], first: &[u8], second: &[
 }
 
 fn defined(line: Line, points: &[u8], facts: &[u32], sheet: &[u8]) -> [u8; 1024]
-    requires { ⌜ (length (now points) ≤ 1024) × (length (now sheet) ≡ 20480) × (line .first < 20) × (line .second < 20) × (line .lower ≤ 1023) × (line .upper ≤ 1023) ⌝ }
+    requires { ⌜ (length (now points) ≤ 1024)
+        × (length (now sheet) ≡ 20480)
+        × (line .first < 20)
+        × (line .second < 20)
+        × (line .lower ≤ 1023)
+        × (line .upper ≤ 1023) ⌝ }
 {
     let m = points.len();
     let first = run(sheet, line.first, m);
@@ -414,7 +425,15 @@ fn compare(
     sheet: &mut [u8],
     other: &mut [u8],
 ) -> usize
-    requires { ⌜ (k < 20) × (length (now points) ≤ 1024) × (length (now facts) ≡ 2 * length (now points)) × (length (now sheet) ≡ 20480) × (length (now other) ≡ 20480) × (line .first < 20) × (line .second < 20) × (line .lower ≤ 1023) × (line .upper ≤ 1023) ⌝ }
+    requires { ⌜ (k < 20)
+        × (length (now points) ≤ 1024)
+        × (length (now facts) ≡ 2 * length (now points))
+        × (length (now sheet) ≡ 20480)
+        × (length (now other) ≡ 20480)
+        × (line .first < 20)
+        × (line .second < 20)
+        × (line .lower ≤ 1023)
+        × (line .upper ≤ 1023) ⌝ }
     ensures { λ r. ⌜ r ≤ 1024 ⌝ }
 {
     let m = points.len();
