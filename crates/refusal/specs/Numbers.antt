@@ -1,5 +1,6 @@
 -- 01, "Reasons to turn a call away": the number and the place of each.
-use Prim.Native.Nat.{ℕ}
+use Prim.Native.Nat.{ℕ, _+_}
+use native.Mathlib.Nat.{zero-add}
 use mathlib.Core.Path.{_≡_, refl}
 use mathlib.Core.List.{[], _∷_}
 use lib.ListN.{getD}
@@ -30,6 +31,33 @@ refusal-place (TruncatedMessage at) = at
 refusal-place BadMessage = 0
 refusal-place Conflict = 0
 refusal-place OutOfRange = 0
+
+-- 02, request 1: in a packet the "place counted from the packet's start (the slip's first byte for refusals checked after 7; those checked before it
+-- keep their places)", where the slip starts at byte `start`
+abbrev pub packet-place : ℕ → Refusal → ℕ
+packet-place start (TruncatedPolicy at) = refusal-place (TruncatedPolicy at)
+packet-place start (BadHeading at) = refusal-place (BadHeading at)
+packet-place start (BadSubformula at) = refusal-place (BadSubformula at)
+packet-place start RuleCount = refusal-place RuleCount
+packet-place start BufferSize = refusal-place BufferSize
+packet-place start CorruptKnowledge = refusal-place CorruptKnowledge
+packet-place start (TruncatedMessage at) = start + at
+packet-place start BadMessage = start
+packet-place start Conflict = start
+packet-place start OutOfRange = refusal-place OutOfRange
+
+-- at the packet's start each keeps its place
+pub first-place : (r : Refusal) → packet-place 0 r ≡ refusal-place r
+first-place (TruncatedPolicy at) = refl
+first-place (BadHeading at) = refl
+first-place (BadSubformula at) = refl
+first-place RuleCount = refl
+first-place BufferSize = refl
+first-place CorruptKnowledge = refl
+first-place (TruncatedMessage at) = zero-add at
+first-place BadMessage = refl
+first-place Conflict = refl
+first-place OutOfRange = refl
 
 -- the refusal with this number and place, the numbers in order from 1
 abbrev pub refusal-of : ℕ → ℕ → Refusal

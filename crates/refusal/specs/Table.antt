@@ -1,8 +1,8 @@
 -- 01, "Reasons to turn a call away": the table's numbers and places, each computed.
-use Prim.Native.Nat.{ℕ}
+use Prim.Native.Nat.{ℕ, _+_}
 use mathlib.Core.Path.{_≡_, refl}
 use Rattle.refusal.specs.declared.Refusal.the-variants.{TruncatedPolicy, BadHeading, BadSubformula, RuleCount, BufferSize, CorruptKnowledge, TruncatedMessage, BadMessage, Conflict, OutOfRange}
-use Rattle.refusal.specs.Numbers.{refusal-number, refusal-place}
+use Rattle.refusal.specs.Numbers.{refusal-number, refusal-place, packet-place}
 
 pub record Table : Type 0 where
   -- 1, cut card: card length, or first extra byte
@@ -38,4 +38,32 @@ table = record {
   bad-slip = (refl, refl);
   clash = (refl, refl);
   off-the-sheet = (refl, refl);
+}
+
+-- 02, request 1: where a refusal stands in a packet whose message starts at byte `start`
+pub record Packet-table : Type 0 where
+  -- 1 to 6 are checked before 7: they "keep their places"
+  pub cut-card : (start at : ℕ) → packet-place start (TruncatedPolicy at) ≡ refusal-place (TruncatedPolicy at)
+  pub bad-heading : (start at : ℕ) → packet-place start (BadHeading at) ≡ refusal-place (BadHeading at)
+  pub bad-line : (start at : ℕ) → packet-place start (BadSubformula at) ≡ refusal-place (BadSubformula at)
+  pub rule-count : (start : ℕ) → packet-place start RuleCount ≡ refusal-place RuleCount
+  pub wrong-tray : (start : ℕ) → packet-place start BufferSize ≡ refusal-place BufferSize
+  pub spoiled-record : (start : ℕ) → packet-place start CorruptKnowledge ≡ refusal-place CorruptKnowledge
+  -- 7: its own place, "counted from the packet's start"
+  pub cut-slip : (start at : ℕ) → packet-place start (TruncatedMessage at) ≡ start + refusal-place (TruncatedMessage at)
+  -- 8 and 9 are checked after 7: "the slip's first byte"
+  pub bad-slip : (start : ℕ) → packet-place start BadMessage ≡ start
+  pub clash : (start : ℕ) → packet-place start Conflict ≡ start
+
+pub packet-table : Packet-table
+packet-table = record {
+  cut-card = λ start at. refl;
+  bad-heading = λ start at. refl;
+  bad-line = λ start at. refl;
+  rule-count = λ start. refl;
+  wrong-tray = λ start. refl;
+  spoiled-record = λ start. refl;
+  cut-slip = λ start at. refl;
+  bad-slip = λ start. refl;
+  clash = λ start. refl;
 }

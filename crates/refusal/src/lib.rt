@@ -1,6 +1,7 @@
 // The reasons to turn a call away (01: the table of reasons), each with its number and place.
 ghost use mathlib.Core.Path.{_≡_};
-ghost use Rattle.refusal.specs.Numbers.{refusal-number, refusal-place};
+ghost use Prim.Native.Nat.{_+_, _<_, _^_};
+ghost use Rattle.refusal.specs.Numbers.{refusal-number, refusal-place, packet-place};
 
 // A place stands beside each reason that has one; the others have place 0.
 pub enum Refusal {
@@ -65,5 +66,25 @@ pub fn place(r: Refusal) -> usize
         Refusal::BadMessage => 0,
         Refusal::Conflict => 0,
         Refusal::OutOfRange => 0,
+    }
+}
+
+// The place of a refusal in a packet, counted from the packet's start, where its message starts at byte `start`; what is checked before 7 keeps
+// its place.
+pub fn place_in_packet(r: Refusal, start: usize) -> usize
+    requires { ⌜ packet-place start r < 2 ^ 64 ⌝ }
+    ensures { λ n. ⌜ n ≡ packet-place start r ⌝ }
+{
+    match r {
+        Refusal::TruncatedPolicy(_) => place(r),
+        Refusal::BadHeading(_) => place(r),
+        Refusal::BadSubformula(_) => place(r),
+        Refusal::RuleCount => place(r),
+        Refusal::BufferSize => place(r),
+        Refusal::CorruptKnowledge => place(r),
+        Refusal::TruncatedMessage(at) => start + at,
+        Refusal::BadMessage => start,
+        Refusal::Conflict => start,
+        Refusal::OutOfRange => place(r),
     }
 }
