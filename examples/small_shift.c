@@ -1,25 +1,43 @@
-/* Opens the small shift of the exact rules, takes its three messages, and prints the release sheet. */
+/* Opens the small shift of the exact rules, takes its three messages, one by itself and two in a packet, and prints the release
+   sheet. */
 #include <stdio.h>
 
 #include "zankezurt.h"
 
-enum { COMPONENTS = 1, MINUTES = 4, SUBFORMULAS = 3, RULES = 1, MESSAGES = 3 };
-
-struct message {
-    size_t length;
-    uint8_t bytes[10];
-};
+enum { COMPONENTS = 1, MINUTES = 4, SUBFORMULAS = 3, RULES = 1 };
 
 /* Mark 0 at some time in the last 2 minutes. */
 static const uint8_t policy[] = {0x01, 0x01, 0x04, 0x00, 0x03, 0x00, 0x01, 0x01, 0x35, 0x04, 0x01, 0x02, 0x00};
 
-static const struct message messages[MESSAGES] = {
-    {8, {0x0C, 0x01, 0x00, 0x01, 0x00, 0x00, 0x00, 0x00}},
-    {10, {0x0E, 0x02, 0x00, 0x02, 0x00, 0x01, 0x00, 0x00, 0x00, 0x01}},
-    {5, {0x06, 0x03, 0x00, 0x03, 0x00}},
+static const uint8_t message[] = {0x0C, 0x01, 0x00, 0x01, 0x00, 0x00, 0x00, 0x00};
+
+/* Two messages end to end. */
+static const uint8_t packet[] = {
+    0x0E, 0x02, 0x00, 0x02, 0x00, 0x01, 0x00, 0x00, 0x00, 0x01,
+    0x06, 0x03, 0x00, 0x03, 0x00,
 };
 
 static ZANKEZURT_STATE(COMPONENTS, MINUTES, SUBFORMULAS, RULES) state;
+static size_t taken, refused;
+
+static void take_message(void)
+{
+    size_t detail;
+    if (zankezurt_receive(policy, sizeof policy, message, sizeof message, ZANKEZURT_LENT(state), &detail) == ZANKEZURT_ACCEPTED)
+        taken++;
+    else
+        refused++;
+}
+
+/* What is taken before a refusal remains taken. */
+static void take_packet(void)
+{
+    size_t count, place;
+    uint8_t refusal = zankezurt_receive_packet(policy, sizeof policy, packet, sizeof packet, ZANKEZURT_LENT(state), &count, &place);
+    taken += count;
+    if (refusal != ZANKEZURT_ACCEPTED)
+        refused++;
+}
 
 /* One line of the sheet, where the verdict is not blank; gives the refusal's number. */
 static uint8_t print_verdict(size_t rule, size_t minute)
@@ -34,22 +52,17 @@ static uint8_t print_verdict(size_t rule, size_t minute)
 int main(void)
 {
     size_t detail;
-    int taken = 0;
     uint8_t refusal = zankezurt_open(policy, sizeof policy, ZANKEZURT_LENT(state), &detail);
     if (refusal != ZANKEZURT_ACCEPTED) {
         printf("card refused %u at %zu\n", refusal, detail);
         return 1;
     }
-    for (size_t i = 0; i < MESSAGES; i++) {
-        const struct message *message = &messages[i];
-        refusal = zankezurt_receive(policy, sizeof policy, message->bytes, message->length, ZANKEZURT_LENT(state), &detail);
-        if (refusal == ZANKEZURT_ACCEPTED)
-            taken++;
-    }
+    take_message();
+    take_packet();
     for (size_t minute = 0; minute < MINUTES; minute++)
         for (size_t rule = 0; rule < RULES; rule++)
             if (print_verdict(rule, minute) != ZANKEZURT_ACCEPTED)
                 return 1;
-    printf("taken %d refused %d\n", taken, MESSAGES - taken);
+    printf("taken %zu refused %zu\n", taken, refused);
     return 0;
 }

@@ -1,12 +1,15 @@
 /* The calls of the proved runtime monitor for C, on x86-64 Linux: link libmonitor_c.a, which `rt staticlib monitor_c` writes.
 
    A call gives 0, or the number of its refusal, and writes *detail: the place of a refusal (0 where it has none), how many
-   verdicts stand after zankezurt_receive, the verdict that zankezurt_lookup shows, 0 after zankezurt_open. Nothing is asked of
-   what the bytes and buffers hold, nor of their lengths, and a refused call changes no buffer.
+   verdicts stand after zankezurt_receive, the verdict that zankezurt_lookup shows, 0 after zankezurt_open.
+   zankezurt_receive_packet writes *taken and *place instead. Nothing is asked of what the bytes and buffers hold, nor of their
+   lengths, and a refused call changes no buffer; of a packet this is meant of each message, and those taken before the refusal
+   remain taken.
 
-   What C itself asks of a caller: each pointer is aligned for its type and points to as many elements as its length says; a policy
-   or message of length 0 may be NULL, a buffer and detail may not; no two buffers that a call writes overlap, nor do they overlap
-   what it reads or *detail. No pointer is kept after a call. docs/EMBEDDING.md has stack, time, threads and power cuts. */
+   What C itself asks of a caller: each pointer is aligned for its type and points to as many elements as its length says; a policy,
+   message or packet of length 0 may be NULL, a buffer, detail, taken and place may not; nothing that a call writes, *detail, *taken
+   and *place too, overlaps anything else that it is lent. No pointer is kept after a call. docs/EMBEDDING.md has stack, time,
+   threads and power cuts. */
 #ifndef ZANKEZURT_H
 #define ZANKEZURT_H
 
@@ -23,7 +26,8 @@
 extern "C" {
 #endif
 
-/* Why a call was turned away. Four reasons have a place, a byte of the policy or message. */
+/* Why a call was turned away. Four reasons have a place, a byte of the policy or message. In a packet 7, 8 and 9 have one, counted
+   from its start: 7 the packet's length, 8 and 9 the message's first byte. */
 enum zankezurt_refusal {
     ZANKEZURT_ACCEPTED = 0,
     ZANKEZURT_TRUNCATED_POLICY = 1, /* the policy ends early, or bytes follow its last line; its length, or the first extra byte */
@@ -60,7 +64,7 @@ enum zankezurt_verdict {
         uint8_t verdicts[ZANKEZURT_VERDICTS_LENGTH(rules, minutes)];                                                             \
     }
 
-/* Such a state as zankezurt_open and zankezurt_receive want it: each buffer and its length. */
+/* Such a state as zankezurt_open, zankezurt_receive and zankezurt_receive_packet want it: each buffer and its length. */
 #define ZANKEZURT_LENT(state)                                                                                                    \
     (state).numbers, sizeof (state).numbers / sizeof (uint16_t), (state).facts, sizeof (state).facts / sizeof (uint32_t),        \
         (state).valuation, sizeof (state).valuation, (state).verdicts, sizeof (state).verdicts
@@ -82,6 +86,17 @@ uint8_t zankezurt_receive(const uint8_t *policy, size_t policy_length,
                           uint8_t *verdicts, size_t verdicts_length,
                           size_t *detail);
 
+/* Takes the messages of a packet, which stand end to end, until the packet ends or one is refused; leaves the lent state as taking
+   them one by one would. *taken is how many were taken, and *place the refusal's place, 0 where none was refused. An empty packet
+   takes none, but policy and state are checked. */
+uint8_t zankezurt_receive_packet(const uint8_t *policy, size_t policy_length,
+                                 const uint8_t *packet, size_t packet_length,
+                                 uint16_t *numbers, size_t numbers_length,
+                                 uint32_t *facts, size_t facts_length,
+                                 uint8_t *valuation, size_t valuation_length,
+                                 uint8_t *verdicts, size_t verdicts_length,
+                                 size_t *taken, size_t *place);
+
 /* The verdict of a rule at a minute, from the lent verdict sheet. */
 uint8_t zankezurt_lookup(const uint8_t *policy, size_t policy_length,
                          const uint8_t *verdicts, size_t verdicts_length,
@@ -92,8 +107,8 @@ uint8_t zankezurt_lookup(const uint8_t *policy, size_t policy_length,
 uint32_t zankezurt_version(void);
 
 /* Nothing is promised of the archive's functions where a pointer is NULL, not even with a length of 0: the language that they are
-   compiled from has no such slice. So in C the three names stand for the functions below, which put an address of their own in the
-   place of an empty policy or message. */
+   compiled from has no such slice. So in C the names of the four calls that take bytes stand for the functions below, which put an
+   address of their own in the place of an empty policy, message or packet. */
 static inline const uint8_t *zankezurt_bytes(const uint8_t *bytes, size_t length)
 {
     static const uint8_t none = 0;
@@ -124,6 +139,19 @@ static inline uint8_t zankezurt_receive_bytes(const uint8_t *policy, size_t poli
                              facts, facts_length, valuation, valuation_length, verdicts, verdicts_length, detail);
 }
 
+static inline uint8_t zankezurt_receive_packet_bytes(const uint8_t *policy, size_t policy_length,
+                                                     const uint8_t *packet, size_t packet_length,
+                                                     uint16_t *numbers, size_t numbers_length,
+                                                     uint32_t *facts, size_t facts_length,
+                                                     uint8_t *valuation, size_t valuation_length,
+                                                     uint8_t *verdicts, size_t verdicts_length,
+                                                     size_t *taken, size_t *place)
+{
+    return zankezurt_receive_packet(zankezurt_bytes(policy, policy_length), policy_length,
+                                    zankezurt_bytes(packet, packet_length), packet_length, numbers, numbers_length,
+                                    facts, facts_length, valuation, valuation_length, verdicts, verdicts_length, taken, place);
+}
+
 static inline uint8_t zankezurt_lookup_bytes(const uint8_t *policy, size_t policy_length,
                                              const uint8_t *verdicts, size_t verdicts_length,
                                              size_t rule, size_t minute,
@@ -135,6 +163,7 @@ static inline uint8_t zankezurt_lookup_bytes(const uint8_t *policy, size_t polic
 
 #define zankezurt_open zankezurt_open_bytes
 #define zankezurt_receive zankezurt_receive_bytes
+#define zankezurt_receive_packet zankezurt_receive_packet_bytes
 #define zankezurt_lookup zankezurt_lookup_bytes
 
 #ifdef __cplusplus

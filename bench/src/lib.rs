@@ -1,9 +1,10 @@
 //! Measures a take of the monitor beside three others: the same algorithm in safe Rust, the direct reading of the definition,
-//! and the floor, which only writes each cell of both sheets once.
+//! and the floor, which only writes each cell of both sheets once; and a packet beside the takes of its messages.
 
 pub mod contender;
 pub mod growth;
 pub mod instructions;
+pub mod packet;
 pub mod plain;
 pub mod timing;
 pub mod workload;

@@ -1,8 +1,10 @@
-//! Prints what a take costs: `bench`, or `bench take NAME COUNT` for the takes alone.
+//! Prints what a take and a packet cost: `bench`. `bench packet COUNT` prints a packet of that many messages alone, and `bench take NAME
+//! COUNT` only makes the takes.
 
 use bench::contender::{Contender, ALL};
 use bench::growth::{added, points, slope};
 use bench::instructions;
+use bench::packet;
 use bench::timing::{in_turns, ratios, Spread};
 use bench::workload::{Shape, Workload, LARGEST};
 use std::env::args;
@@ -10,6 +12,8 @@ use std::env::args;
 /// How many times over each is measured, beside the others and in the growth.
 const SAMPLES: usize = 201;
 const GROWTH_SAMPLES: usize = 1_001;
+/// How many messages the packet has.
+const PACKET: usize = 64;
 const MICRO: f64 = 1e6;
 
 fn main() {
@@ -17,7 +21,8 @@ fn main() {
     match words.iter().map(String::as_str).collect::<Vec<_>>()[..] {
         [] => report(),
         ["take", name, count] => takes(name, count.parse().expect("a count")),
-        _ => panic!("usage: bench [take NAME COUNT]"),
+        ["packet", count] => packets(count.parse().expect("a count")),
+        _ => panic!("usage: bench [take NAME COUNT | packet COUNT]"),
     }
 }
 
@@ -33,6 +38,7 @@ fn report() {
     let Shape { propositions, components, minutes, subformulas, .. } = LARGEST;
     println!("A take: {propositions} propositions, {components} components, {minutes} minutes, {subformulas} subformulas, full record\n");
     compare();
+    packets(PACKET);
     count();
     grow("minutes", &[64, 128, 256, 512, 1024], |minutes| Shape { minutes, ..LARGEST });
     grow("subformulas", &[1, 2, 4, 8, 16, 32, 64], |subformulas| {
@@ -44,16 +50,33 @@ fn report() {
 /// The monitor beside the others.
 fn compare() {
     let times = in_turns(&ALL, &mut Workload::new(&LARGEST), SAMPLES);
-    println!("{:<50} {:>12} {:>12} {:>12}  monitor / it: median (quartiles)", "", "least µs", "median µs", "most µs");
+    heading("monitor");
     for (contender, of_it) in ALL.into_iter().zip(&times) {
-        let spread = Spread::of(of_it.clone());
-        let ratio = ratios(&times[0], of_it);
-        let [least, median, most] = [spread.least(), spread.median(), spread.most()].map(|time| time * MICRO);
-        let [middle, low, high] = [ratio.median(), ratio.quantile(0.25), ratio.quantile(0.75)].map(three_digits);
-        let name = contender.describe();
-        println!("{name:<50} {least:>12.1} {median:>12.1} {most:>12.1}  {middle} ({low} to {high})");
+        row(contender.describe(), of_it, &times[0]);
     }
     println!();
+}
+
+/// A packet beside the takes of its messages.
+fn packets(count: usize) {
+    let [at_once, one_by_one] = packet::in_turns(count, SAMPLES);
+    heading("packet");
+    row(&format!("a packet of {count} messages"), &at_once, &at_once);
+    row("the same messages, one by one", &one_by_one, &at_once);
+    println!();
+}
+
+/// The heading of a table of times, beside which stands what the first took over each.
+fn heading(first: &str) {
+    println!("{:<50} {:>12} {:>12} {:>12}  {first} / it: median (quartiles)", "", "least µs", "median µs", "most µs");
+}
+
+fn row(name: &str, times: &[f64], first: &[f64]) {
+    let spread = Spread::of(times.to_vec());
+    let ratio = ratios(first, times);
+    let [least, median, most] = [spread.least(), spread.median(), spread.most()].map(|time| time * MICRO);
+    let [middle, low, high] = [ratio.median(), ratio.quantile(0.25), ratio.quantile(0.75)].map(three_digits);
+    println!("{name:<50} {least:>12.1} {median:>12.1} {most:>12.1}  {middle} ({low} to {high})");
 }
 
 /// The number with three digits that count.

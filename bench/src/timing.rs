@@ -70,7 +70,7 @@ pub fn in_turns(contenders: &[Contender], workload: &mut Workload, samples: usiz
     times
 }
 
-/// The monitor's time over the other's, round by round.
-pub fn ratios(monitor: &[f64], other: &[f64]) -> Spread {
-    Spread::of(monitor.iter().zip(other).map(|(monitor, other)| monitor / other).collect())
+/// The first's time over the other's, round by round.
+pub fn ratios(first: &[f64], other: &[f64]) -> Spread {
+    Spread::of(first.iter().zip(other).map(|(first, other)| first / other).collect())
 }

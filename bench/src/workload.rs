@@ -74,10 +74,14 @@ fn full_record(random: &mut Random, policy: &Policy) -> Buffers {
     buffers
 }
 
-/// An alive message of component 0 at the last minute that says again what the record knows.
-fn known_message(policy: &Policy, buffers: &Buffers) -> Message {
-    let minute = policy.minutes;
-    Message { component: 0, event: Event::Alive { minute, number: buffers.numbers[minute] as usize } }
+/// So many alive messages that say again what the record knows, of each component in turn and from the last minute back.
+pub fn known_messages(policy: &Policy, buffers: &Buffers, count: usize) -> Vec<Vec<u8>> {
+    let message = |i: usize| {
+        let (component, minute) = (i % policy.components, policy.minutes - i % policy.minutes);
+        let number = buffers.numbers[component * (policy.minutes + 1) + minute] as usize;
+        Message { component, event: Event::Alive { minute, number } }
+    };
+    (0..count).map(|i| encode_message(&message(i))).collect()
 }
 
 impl Workload {
@@ -85,7 +89,7 @@ impl Workload {
         let mut random = Random::new(2_026);
         let policy = policy(&mut random, shape);
         let buffers = full_record(&mut random, &policy);
-        let message = encode_message(&known_message(&policy, &buffers));
+        let message = known_messages(&policy, &buffers, 1).concat();
         Workload { encoded: encode_policy(&policy), policy, message, buffers }
     }
 }

@@ -17,7 +17,7 @@ static ZANKEZURT_STATE(COMPONENTS, MINUTES, SUBFORMULAS, RULES) state;
 
 static uint8_t stack[STACK];
 static ucontext_t here, there;
-static size_t detail;
+static size_t detail, taken;
 static uint8_t refusal;
 
 static void append(const uint8_t *bytes, size_t length)
@@ -54,6 +54,13 @@ static void call_receive(void)
 {
     static const uint8_t message[] = {0x0E, 0xE8, 0x03, 0x01, 0x00, 0x01, 0x00, 0x00, 0x00, 0x01};
     refusal = zankezurt_receive(policy, policy_length, message, sizeof message, ZANKEZURT_LENT(state), &detail);
+}
+
+/* That observation, and an alive that says nothing new. */
+static void call_receive_packet(void)
+{
+    static const uint8_t packet[] = {0x0E, 0xE8, 0x03, 0x01, 0x00, 0x01, 0x00, 0x00, 0x00, 0x01, 0x10};
+    refusal = zankezurt_receive_packet(policy, policy_length, packet, sizeof packet, ZANKEZURT_LENT(state), &taken, &detail);
 }
 
 static void call_lookup(void)
@@ -93,6 +100,7 @@ int main(void)
     print("zankezurt_lookup", call_lookup);
     print("zankezurt_open", call_open);
     print("zankezurt_receive", call_receive);
+    print("zankezurt_receive_packet", call_receive_packet);
     print("zankezurt_version", call_version);
     return 0;
 }

@@ -31,6 +31,23 @@ extern "C" {
         detail: *mut usize,
     ) -> u8;
 
+    pub fn zankezurt_receive_packet(
+        policy: *const u8,
+        policy_length: usize,
+        packet: *const u8,
+        packet_length: usize,
+        numbers: *mut u16,
+        numbers_length: usize,
+        facts: *mut u32,
+        facts_length: usize,
+        valuation: *mut u8,
+        valuation_length: usize,
+        verdicts: *mut u8,
+        verdicts_length: usize,
+        taken: *mut usize,
+        place: *mut usize,
+    ) -> u8;
+
     pub fn zankezurt_lookup(
         policy: *const u8,
         policy_length: usize,

@@ -38,29 +38,41 @@ impl fmt::Display for Verdict {
     }
 }
 
+/// What became of a packet.
+#[derive(Clone, Copy, Debug, PartialEq, Eq, Hash)]
+#[must_use]
+pub struct Packet {
+    /// How many of its messages were taken; they remain taken where the next one is refused.
+    pub taken: usize,
+    /// Why the next message, or the call itself, was turned away; none where the packet was taken whole. A message's place is counted
+    /// from the packet's start: the packet's length where that ends within the message (7), the message's first byte where it is bad (8)
+    /// or in conflict (9).
+    pub refusal: Option<Refusal>,
+}
+
 /// What a call gave: its detail, or the refusal with the number, whose place is the detail.
-fn answer(number: u8, detail: usize) -> Result<usize, Refusal> {
+fn answer((number, detail): (u8, usize)) -> Result<usize, Refusal> {
     match number {
         0 => Ok(detail),
         _ => Err(Refusal { reason: Reason::of_number(number), place: detail }),
     }
 }
 
-/// Calls a function of the archive: slices that it reads, plain numbers, slices that it writes.
+/// Calls a function of the archive: slices that it reads, plain numbers, slices that it writes. Gives its number and its details.
 macro_rules! call {
-    ($function:ident($($read:ident),*; $($number:ident),*; $($written:ident),*)) => {{
-        let mut detail = 0;
+    ($function:ident($($read:ident),*; $($number:ident),*; $($written:ident),*; $($detail:ident),*)) => {{
+        $(let mut $detail = 0;)*
         // SAFETY: each slice is lent as its own pointer and length: not null, aligned, and nothing else overlaps what is written,
-        // since that is borrowed alone. The detail is a local. The call keeps no pointer.
+        // since that is borrowed alone. The details are locals. The call keeps no pointer.
         let number = unsafe {
             archive::$function(
                 $($read.as_ptr(), $read.len(),)*
                 $($number,)*
                 $($written.as_mut_ptr(), $written.len(),)*
-                &mut detail,
+                $(&mut $detail,)*
             )
         };
-        answer(number, detail)
+        (number, $($detail),*)
     }};
 }
 
@@ -72,7 +84,7 @@ pub fn open(
     valuation: &mut [u8],
     verdicts: &mut [u8],
 ) -> Result<(), Refusal> {
-    call!(zankezurt_open(policy;; numbers, facts, valuation, verdicts)).map(|_| ())
+    answer(call!(zankezurt_open(policy;; numbers, facts, valuation, verdicts; detail))).map(|_| ())
 }
 
 /// Takes one message, of any bytes, into the lent state; gives how many verdicts stand.
@@ -84,12 +96,27 @@ pub fn receive(
     valuation: &mut [u8],
     verdicts: &mut [u8],
 ) -> Result<usize, Refusal> {
-    call!(zankezurt_receive(policy, message;; numbers, facts, valuation, verdicts))
+    answer(call!(zankezurt_receive(policy, message;; numbers, facts, valuation, verdicts; detail)))
+}
+
+/// Takes the messages of a packet, which stand end to end, until the packet ends or one is refused; leaves the lent state as taking them
+/// one by one would. An empty packet takes none, but policy and state are checked.
+pub fn receive_packet(
+    policy: &[u8],
+    packet: &[u8],
+    numbers: &mut [u16],
+    facts: &mut [u32],
+    valuation: &mut [u8],
+    verdicts: &mut [u8],
+) -> Packet {
+    let (number, taken, place) =
+        call!(zankezurt_receive_packet(policy, packet;; numbers, facts, valuation, verdicts; taken, place));
+    Packet { taken, refusal: answer((number, place)).err() }
 }
 
 /// The verdict of a rule at a minute, from the lent verdict sheet.
 pub fn lookup(policy: &[u8], verdicts: &[u8], rule: usize, minute: usize) -> Result<Verdict, Refusal> {
-    call!(zankezurt_lookup(policy, verdicts; rule, minute;)).map(Verdict::of_code)
+    answer(call!(zankezurt_lookup(policy, verdicts; rule, minute;; detail))).map(Verdict::of_code)
 }
 
 #[cfg(test)]
@@ -98,7 +125,7 @@ mod tests {
 
     #[test]
     fn a_number_without_a_name_is_an_error_value() {
-        let refusal = answer(11, 3).unwrap_err();
+        let refusal = answer((11, 3)).unwrap_err();
         assert_eq!(refusal, Refusal { reason: Reason::Unnamed(11), place: 3 });
     }
 }

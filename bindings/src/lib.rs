@@ -15,18 +15,28 @@
 //! assert_eq!(shift.receive(&[0x0C, 0x01, 0x00, 0x01, 0x00, 0x00, 0x00, 0x00])?, 1);
 //! assert_eq!(shift.verdicts().collect::<Vec<_>>(), [(0, 0, Verdict::Violated)]);
 //!
+//! // two messages end to end, in one packet: both are taken
+//! let packet = shift.receive_packet(&[0x0E, 0x02, 0x00, 0x02, 0x00, 0x01, 0x00, 0x00, 0x00, 0x01, 0x06, 0x03, 0x00, 0x03, 0x00]);
+//! assert_eq!((packet.taken, packet.refusal), (2, None));
+//! assert_eq!(shift.lookup(0, 3)?, Verdict::Satisfied);
+//!
 //! // any bytes may be offered: what is wrong is refused, and changes nothing
 //! let refusal = shift.receive(&[]).unwrap_err();
 //! assert_eq!(refusal.reason, Reason::TruncatedMessage);
 //! assert_eq!(refusal.to_string(), "refused 7 at 0: truncated message");
+//!
+//! // of a packet too; what was taken before it stays, and the place is counted from the packet's start
+//! let packet = shift.receive_packet(&[0x10, 0x10, 0x00, 0x10]);
+//! assert_eq!(packet.taken, 2);
+//! assert_eq!(packet.refusal.unwrap().to_string(), "refused 8 at 2: bad message");
 //! # Ok(())
 //! # }
 //! # #[cfg(not(feature = "alloc"))]
 //! # fn main() {}
 //! ```
 //!
-//! [`open`], [`receive`] and [`lookup`] do the same in memory that the caller lends, with no heap: a crate that depends on this one
-//! with `default-features = false` has them alone. [`Sizes`] gives the buffers' exact lengths:
+//! [`open`], [`receive`], [`receive_packet`] and [`lookup`] do the same in memory that the caller lends, with no heap: a crate that
+//! depends on this one with `default-features = false` has them alone. [`Sizes`] gives the buffers' exact lengths:
 //!
 //! ```
 //! use zankezurt::{lookup, open, receive, Sizes, Verdict};
@@ -52,7 +62,8 @@
 //! ```
 //!
 //! Nothing is asked of the arguments: any bytes and any buffers may be lent. What is wrong is refused, with a number and a place, and
-//! a refused call changes nothing. `docs/EMBEDDING.md` has stack, time, threads and power cuts.
+//! a refused call changes nothing; of a packet this is meant of each message, and those taken before the refusal remain taken.
+//! `docs/EMBEDDING.md` has stack, time, threads and power cuts.
 
 #![no_std]
 #![deny(missing_docs, unsafe_code)]
@@ -68,7 +79,7 @@ mod shift;
 mod sizes;
 mod version;
 
-pub use calls::{lookup, open, receive, Verdict};
+pub use calls::{lookup, open, receive, receive_packet, Packet, Verdict};
 pub use refusal::{Reason, Refusal};
 #[cfg(feature = "alloc")]
 pub use shift::Shift;

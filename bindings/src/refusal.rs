@@ -88,12 +88,12 @@ impl fmt::Display for Reason {
     }
 }
 
-/// A refusal: its reason, and where in the policy or message it was found (0 where the reason has no place).
+/// A refusal: its reason, and where in the policy, message or packet it was found (0 where the reason has no place).
 #[derive(Clone, Copy, Debug, PartialEq, Eq, Hash)]
 pub struct Refusal {
     /// Why the call was turned away.
     pub reason: Reason,
-    /// A byte of the policy or message, or 0.
+    /// A byte of the policy, message or packet, or 0.
     pub place: usize,
 }
 

@@ -1,6 +1,6 @@
 //! A state that owns its memory.
 
-use crate::calls::{lookup, open, receive, Verdict};
+use crate::calls::{lookup, open, receive, receive_packet, Packet, Verdict};
 use crate::refusal::Refusal;
 use crate::sizes::Sizes;
 use alloc::boxed::Box;
@@ -58,6 +58,13 @@ impl Shift {
     pub fn receive(&mut self, message: &[u8]) -> Result<usize, Refusal> {
         let Shift { policy, numbers, facts, valuation, verdicts, .. } = self;
         receive(policy, message, numbers, facts, valuation, verdicts)
+    }
+
+    /// Takes the messages of a packet, which stand end to end, until the packet ends or one is refused; leaves the shift as taking them
+    /// one by one would.
+    pub fn receive_packet(&mut self, packet: &[u8]) -> Packet {
+        let Shift { policy, numbers, facts, valuation, verdicts, .. } = self;
+        receive_packet(policy, packet, numbers, facts, valuation, verdicts)
     }
 
     /// The verdict of a rule at a minute.

@@ -1,4 +1,4 @@
-/* Calls from C with empty and NULL bytes, and the version; prints the version. */
+/* Calls from C with empty and NULL bytes, packets, and the version; prints the version. */
 #include <stdio.h>
 #include <stdlib.h>
 
@@ -10,7 +10,7 @@ enum { COMPONENTS = 1, MINUTES = 4, SUBFORMULAS = 3, RULES = 1 };
 static const uint8_t policy[] = {0x01, 0x01, 0x04, 0x00, 0x03, 0x00, 0x01, 0x01, 0x35, 0x04, 0x01, 0x02, 0x00};
 
 static ZANKEZURT_STATE(COMPONENTS, MINUTES, SUBFORMULAS, RULES) state;
-static size_t detail;
+static size_t detail, taken, place;
 
 static void expect(const char *what, size_t found, size_t expected)
 {
@@ -30,6 +30,11 @@ static uint8_t receive(const uint8_t *bytes, size_t length)
     return zankezurt_receive(policy, sizeof policy, bytes, length, ZANKEZURT_LENT(state), &detail);
 }
 
+static uint8_t receive_packet(const uint8_t *bytes, size_t length)
+{
+    return zankezurt_receive_packet(policy, sizeof policy, bytes, length, ZANKEZURT_LENT(state), &taken, &place);
+}
+
 static uint8_t look_under(const uint8_t *bytes, size_t length)
 {
     return zankezurt_lookup(bytes, length, state.verdicts, sizeof state.verdicts, 0, 0, &detail);
@@ -37,7 +42,7 @@ static uint8_t look_under(const uint8_t *bytes, size_t length)
 
 int main(void)
 {
-    static const uint8_t alive[] = {0x10};
+    static const uint8_t alive[] = {0x10}, packet[] = {0x10, 0x10, 0x00, 0x10};
 
     expect("a policy that is NULL", open_under(NULL, 0), ZANKEZURT_TRUNCATED_POLICY);
     expect("a look under it", look_under(NULL, 0), ZANKEZURT_TRUNCATED_POLICY);
@@ -49,6 +54,19 @@ int main(void)
     expect("its place", detail, 0);
     expect("an empty message", receive(alive, 0), ZANKEZURT_TRUNCATED_MESSAGE);
     expect("a message", receive(alive, sizeof alive), ZANKEZURT_ACCEPTED);
+
+    taken = place = 1;
+    expect("a packet that is NULL", receive_packet(NULL, 0), ZANKEZURT_ACCEPTED);
+    expect("how many it has", taken, 0);
+    expect("its place", place, 0);
+    expect("an empty packet", receive_packet(packet, 0), ZANKEZURT_ACCEPTED);
+    place = 1;
+    expect("a packet of two", receive_packet(packet, 2), ZANKEZURT_ACCEPTED);
+    expect("how many were taken", taken, 2);
+    expect("its place", place, 0);
+    expect("a packet with a bad one", receive_packet(packet, sizeof packet), ZANKEZURT_BAD_MESSAGE);
+    expect("how many were taken before it", taken, 2);
+    expect("its place", place, 2);
 
     expect("the archive's version", zankezurt_version(), ZANKEZURT_VERSION);
     printf("version %d\n", ZANKEZURT_VERSION);

@@ -43,7 +43,7 @@ fn the_archive_is_of_the_bindings_version() {
     assert_eq!(version(), VERSION);
 }
 
-/// The header's version, the archive's, and calls with empty and NULL bytes, from C; it stops at the first that is wrong.
+/// The header's version, the archive's, and calls with empty and NULL bytes and packets, from C; it stops at the first that is wrong.
 #[test]
 fn the_calls_from_c() {
     let said = Command::new(build_program("bindings/tests/calls.c", "calls")).output().unwrap();

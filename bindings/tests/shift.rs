@@ -1,7 +1,7 @@
 //! A shift that owns its memory: sizes, takes and looks are those of the calls over lent memory.
 #![cfg(feature = "alloc")]
 
-use zankezurt::{lookup, open, receive, Reason, Shift, Sizes, Verdict};
+use zankezurt::{lookup, open, receive, receive_packet, Packet, Reason, Refusal, Shift, Sizes, Verdict};
 
 /// Rule 0: mark 0 at some time in the last 2 minutes. Rule 1: mark 1. Rule 2: mark 0 within the next minute. The lines are of many
 /// lengths, from 1 to 8 bytes.
@@ -66,7 +66,30 @@ fn takes_and_looks_are_those_of_lent_memory() {
         assert_eq!(shift.lookup(1, 2), lookup(&POLICY, &verdicts, 1, 2));
     }
     assert!(shift.verdicts().count() > 0);
+    let packet = MESSAGES.concat();
+    let lent = receive_packet(&POLICY, &packet, &mut numbers, &mut facts, &mut valuation, &mut verdicts);
+    assert_eq!(shift.receive_packet(&packet), lent);
     assert_eq!(shift.lookup(3, 0).unwrap_err().reason, Reason::OutOfRange);
+}
+
+/// The first three messages are taken, and the last is refused.
+#[test]
+fn a_packet_cut_at_every_byte_takes_what_is_whole() {
+    let packet = MESSAGES.concat();
+    let refused = |length| match length {
+        0 | 8 | 18 | 23 => None,
+        24 => Some(Refusal { reason: Reason::BadMessage, place: 23 }),
+        _ => Some(Refusal { reason: Reason::TruncatedMessage, place: length }),
+    };
+    for length in 0..=packet.len() {
+        let mut shift = Shift::open(&POLICY).unwrap();
+        let mut one_by_one = shift.clone();
+        let Packet { taken, refusal } = shift.receive_packet(&packet[..length]);
+        assert_eq!(refusal, refused(length));
+        assert_eq!(taken, [8, 18, 23].iter().filter(|end| **end <= length).count());
+        assert!(MESSAGES[..taken].iter().all(|message| one_by_one.receive(message).is_ok()));
+        assert_eq!(shift, one_by_one);
+    }
 }
 
 /// Every verdict that stands, by the call, minute by minute.

@@ -1,7 +1,7 @@
 //! The archive's calls, through the bindings, over the oracle's types.
 
 use oracle::reading::Verdict;
-use oracle::{Answer, Buffers, Look, Refusal};
+use oracle::{Answer, Buffers, Look, PacketAnswer, Refusal};
 
 pub fn open(policy: &[u8], buffers: &mut Buffers) -> Answer {
     let Buffers { numbers, facts, valuation, verdicts } = buffers;
@@ -17,6 +17,12 @@ pub fn receive(policy: &[u8], message: &[u8], buffers: &mut Buffers) -> Answer {
         Ok(standing) => Answer::Received(standing),
         Err(refusal) => Answer::Refused(refused(refusal)),
     }
+}
+
+pub fn receive_packet(policy: &[u8], packet: &[u8], buffers: &mut Buffers) -> PacketAnswer {
+    let Buffers { numbers, facts, valuation, verdicts } = buffers;
+    let answer = zankezurt::receive_packet(policy, packet, numbers, facts, valuation, verdicts);
+    PacketAnswer { taken: answer.taken, refusal: answer.refusal.map(refused) }
 }
 
 pub fn lookup(policy: &[u8], verdicts: &[u8], rule: usize, minute: usize) -> Look {

@@ -113,6 +113,21 @@ pub fn noise(random: &mut Random, longest: usize) -> Vec<u8> {
     (0..length).map(|_| (random.word() & random.word()) as u8).collect()
 }
 
+/// Bytes to offer: messages of one trace, damaged and stray ones, some of another trace, and noise.
+pub fn offers(random: &mut Random, policy: &Policy, most: usize) -> Vec<Vec<u8>> {
+    let most = random.between(0, most);
+    let one = trace(random, policy, most / 2);
+    let mut offers =
+        if random.once_in(3) { sent(random, policy, &one, most) } else { generate::offers(random, policy, &one, most) };
+    if random.once_in(2) {
+        let other = trace(random, policy, most / 2);
+        offers.extend(generate::offers(random, policy, &other, most / 3));
+    }
+    offers.extend((0..most / 6).map(|_| noise(random, 20)));
+    random.shuffle(&mut offers);
+    offers
+}
+
 /// A rule and a minute to look at: on the sheet, just off it, or far off, where rule times minutes
 /// wraps around.
 pub fn cell(random: &mut Random, policy: &Policy) -> (usize, usize) {

@@ -10,19 +10,32 @@ pub mod inputs;
 pub mod process;
 pub mod rounds;
 
-use oracle::{Answer, Buffers, Look};
+use oracle::{Answer, Buffers, Look, PacketAnswer};
+use std::fmt::Debug;
 
 /// Opens on both sides; a refusal must have changed nothing.
 pub fn open(policy: &[u8], buffers: &mut Buffers) -> Answer {
     let call = format!("open\npolicy {policy:?}");
-    both(&call, buffers, |buffers| archive::open(policy, buffers), |buffers| oracle::open(policy, buffers))
+    both(&call, buffers, |buffers| archive::open(policy, buffers), |buffers| oracle::open(policy, buffers), is_refused)
 }
 
 /// Receives on both sides; a refusal must have changed nothing.
 pub fn receive(policy: &[u8], message: &[u8], buffers: &mut Buffers) -> Answer {
     let call = format!("receive\npolicy {policy:?}\nmessage {message:?}");
     let archive = |buffers: &mut Buffers| archive::receive(policy, message, buffers);
-    both(&call, buffers, archive, |buffers| oracle::receive(policy, message, buffers))
+    both(&call, buffers, archive, |buffers| oracle::receive(policy, message, buffers), is_refused)
+}
+
+fn is_refused(answer: &Answer) -> bool {
+    matches!(answer, Answer::Refused(_))
+}
+
+/// Receives a packet on both sides; one of which no message was taken must have changed nothing.
+pub fn receive_packet(policy: &[u8], packet: &[u8], buffers: &mut Buffers) -> PacketAnswer {
+    let call = format!("receive_packet\npolicy {policy:?}\npacket {packet:?}");
+    let archive = |buffers: &mut Buffers| archive::receive_packet(policy, packet, buffers);
+    let oracle = |buffers: &mut Buffers| oracle::receive_packet(policy, packet, buffers);
+    both(&call, buffers, archive, oracle, |answer| answer.taken == 0)
 }
 
 /// Looks on both sides.
@@ -36,13 +49,14 @@ pub fn lookup(policy: &[u8], verdicts: &[u8], rule: usize, minute: usize) -> Loo
     look
 }
 
-/// Calls the archive on the buffers and the oracle on a copy of them.
-fn both(
+/// Calls the archive on the buffers and the oracle on a copy of them. Some answers tell that nothing was changed.
+fn both<A: PartialEq + Debug>(
     call: &str,
     buffers: &mut Buffers,
-    archive: impl Fn(&mut Buffers) -> Answer,
-    oracle: impl Fn(&mut Buffers) -> Answer,
-) -> Answer {
+    archive: impl Fn(&mut Buffers) -> A,
+    oracle: impl Fn(&mut Buffers) -> A,
+    changes_nothing: impl Fn(&A) -> bool,
+) -> A {
     let before = buffers.clone();
     let mut expected = before.clone();
     let answer = archive(buffers);
@@ -50,8 +64,8 @@ fn both(
     let same = answer == expected_answer && *buffers == expected;
     let difference = || difference(buffers, &expected);
     assert!(same, "archive {answer:?}, oracle {expected_answer:?}, {}\n{call}\nbefore {before:?}", difference());
-    if let Answer::Refused(_) = answer {
-        assert!(*buffers == before, "refused and changed\n{call}\nbefore {before:?}");
+    if changes_nothing(&answer) {
+        assert!(*buffers == before, "{answer:?} and changed\n{call}\nbefore {before:?}");
     }
     answer
 }

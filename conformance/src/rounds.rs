@@ -1,7 +1,7 @@
 //! How long the random tests run, on all cores, and what they have seen.
 
 use oracle::generate::Random;
-use oracle::{Answer, Look};
+use oracle::{Answer, Look, PacketAnswer};
 use std::collections::BTreeMap;
 use std::sync::atomic::{AtomicUsize, Ordering};
 use std::{env, panic, thread};
@@ -28,6 +28,20 @@ impl Seen {
             Answer::Done => self.one(&format!("{call} done")),
             Answer::Received(_) => self.one(&format!("{call} accepted")),
             Answer::Refused(refusal) => self.one(&format!("{call} refused {}", refusal.number)),
+        }
+    }
+
+    /// Whether the packet was empty, taken whole or refused, and why, and how many of its messages were taken.
+    pub fn packet(&mut self, packet: &[u8], answer: PacketAnswer) {
+        let kind = if packet.is_empty() { "empty packet" } else { "packet" };
+        match answer.refusal {
+            None => self.one(&format!("{kind} whole")),
+            Some(refusal) => self.one(&format!("{kind} refused {}", refusal.number)),
+        }
+        match answer.taken {
+            0 => self.one("packet took none"),
+            1 => self.one("packet took one"),
+            _ => self.one("packet took many"),
         }
     }
 

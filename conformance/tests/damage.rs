@@ -3,11 +3,12 @@
 
 use conformance::inputs::{self, Size};
 use conformance::rounds::{self, Seen};
-use conformance::{lookup, open, receive};
+use conformance::{lookup, open, receive, receive_packet};
 use oracle::generate::{self, Random};
 use oracle::policy::{self, Policy};
 use oracle::refusal::BUFFER_SIZE;
-use oracle::{knowledge, Answer, Buffers, Look, Refusal};
+use oracle::trace::Trace;
+use oracle::{knowledge, Answer, Buffers, Look, PacketAnswer, Refusal};
 
 /// No policy is longer than 517 bytes; offered are these.
 const LONGEST: usize = 600;
@@ -33,6 +34,13 @@ fn anything_may_be_damaged() {
     });
     for number in 1..=9 {
         seen.at_least(500, &format!("receive refused {number}"));
+        seen.at_least(300, &format!("packet refused {number}"));
+    }
+    for number in 1..=6 {
+        seen.at_least(100, &format!("empty packet refused {number}"));
+    }
+    for what in ["empty packet whole", "packet whole", "packet took none", "packet took one", "packet took many"] {
+        seen.at_least(500, what);
     }
     for number in 1..=5 {
         seen.at_least(500, &format!("open refused {number}"));
@@ -47,7 +55,7 @@ fn anything_may_be_damaged() {
     seen.at_least(5, "largest accepted");
 }
 
-/// One state and one message, each part of them damaged or not, offered to all three calls.
+/// One state, one message and one packet, each part of them damaged or not, offered to all four calls.
 fn case(random: &mut Random, original: &Policy, seen: &mut Seen) {
     let bytes = damaged_policy(random, original);
     let read = policy::read(&bytes);
@@ -69,6 +77,8 @@ fn case(random: &mut Random, original: &Policy, seen: &mut Seen) {
     let (rule, minute) = inputs::cell(random, policy);
     seen.answer("open", open(&bytes, &mut buffers.clone()));
     seen.look(lookup(&bytes, &buffers.verdicts, rule, minute));
+    let packet = damaged_packet(random, policy, &trace);
+    seen.packet(&packet, receive_packet(&bytes, &packet, &mut buffers.clone()));
     let answer = receive(&bytes, &message, &mut buffers);
     seen.answer("receive", answer);
     let accepted = matches!(answer, Answer::Received(_));
@@ -106,6 +116,12 @@ fn damaged_message(random: &mut Random, policy: &Policy, bytes: &[u8]) -> Vec<u8
         5 => [bytes, &inputs::noise(random, LONGEST)].concat(),
         _ => bytes.to_vec(),
     }
+}
+
+/// Up to three messages end to end, each often as it is.
+fn damaged_packet(random: &mut Random, policy: &Policy, trace: &Trace) -> Vec<u8> {
+    let messages: Vec<_> = (0..random.below(4)).map(|_| generate::message(random, policy, trace)).collect();
+    messages.iter().flat_map(|message| damaged_message(random, policy, &generate::encode_message(message))).collect()
 }
 
 /// A few cells with values near the right ones, or anything in some cells, or anything everywhere.
@@ -150,7 +166,7 @@ fn buffers_of_every_wrong_size() {
             }
         }
     });
-    for call in ["open", "receive", "lookup"] {
+    for call in ["open", "receive", "packet", "empty packet", "lookup"] {
         seen.at_least(200, &format!("{call} refused 5"));
     }
 }
@@ -160,11 +176,17 @@ fn lengths(exact: usize) -> impl Iterator<Item = usize> {
 }
 
 fn refused_for_size(policy: &[u8], buffers: &Buffers, seen: &mut Seen) {
+    let refusal = Refusal { number: BUFFER_SIZE, place: 0 };
     let opened = open(policy, &mut buffers.clone());
     let received = receive(policy, &[0x10], &mut buffers.clone());
     for (call, answer) in [("open", opened), ("receive", received)] {
-        assert_eq!(answer, Answer::Refused(Refusal { number: BUFFER_SIZE, place: 0 }));
+        assert_eq!(answer, Answer::Refused(refusal));
         seen.answer(call, answer);
+    }
+    for packet in [&[][..], &[0x10, 0x10]] {
+        let answer = receive_packet(policy, packet, &mut buffers.clone());
+        assert_eq!(answer, PacketAnswer { taken: 0, refusal: Some(refusal) });
+        seen.packet(packet, answer);
     }
 }
 
@@ -189,7 +211,7 @@ fn every_byte_of_the_largest_policies() {
             refused_policy(random, &[&bytes[..], &vec![0; more]].concat(), &buffers, seen);
         }
     });
-    for call in ["open", "receive", "lookup"] {
+    for call in ["open", "receive", "packet", "empty packet", "lookup"] {
         for number in 1..=3 {
             seen.at_least(10, &format!("{call} refused {number}"));
         }
@@ -197,7 +219,7 @@ fn every_byte_of_the_largest_policies() {
     seen.at_least(10, "still a policy");
 }
 
-/// Offers the bytes to all three calls; only to lookup where they are still a policy, which takes the oracle long to read.
+/// Offers the bytes to all four calls; only to lookup where they are still a policy, which takes the oracle long to read.
 fn refused_policy(random: &mut Random, bytes: &[u8], buffers: &Buffers, seen: &mut Seen) {
     let look = lookup(bytes, &buffers.verdicts, random.below(8), random.below(1024));
     seen.look(look);
@@ -207,6 +229,9 @@ fn refused_policy(random: &mut Random, bytes: &[u8], buffers: &Buffers, seen: &m
             assert_eq!(look, Look::Refused(refusal));
             seen.answer("open", open(bytes, &mut buffers.clone()));
             seen.answer("receive", receive(bytes, &[0x10], &mut buffers.clone()));
+            for packet in [&[][..], &[0x10, 0x10]] {
+                seen.packet(packet, receive_packet(bytes, packet, &mut buffers.clone()));
+            }
         }
     }
 }
@@ -249,14 +274,20 @@ fn nothing_beside_the_lent_cells_is_written() {
         let (mut valuation, mut verdicts) = (Lent::new(&valuation, 0x5A), Lent::new(&verdicts, 0x5A));
         let opened = zankezurt::open(&bytes, numbers.part(), facts.part(), valuation.part(), verdicts.part());
         assert_eq!(opened, Ok(()));
-        for offer in generate::offers(random, &policy, &trace, 20) {
+        for offers in generate::offers(random, &policy, &trace, 60).chunks(3) {
             let parts = (numbers.part(), facts.part(), valuation.part(), verdicts.part());
-            let taken = zankezurt::receive(&bytes, &offer, parts.0, parts.1, parts.2, parts.3);
+            let taken = zankezurt::receive(&bytes, &offers[0], parts.0, parts.1, parts.2, parts.3);
             seen.one(if taken.is_ok() { "accepted" } else { "refused" });
+            let parts = (numbers.part(), facts.part(), valuation.part(), verdicts.part());
+            let packet = zankezurt::receive_packet(&bytes, &offers.concat(), parts.0, parts.1, parts.2, parts.3);
+            seen.add("taken in packets", packet.taken);
+            seen.add("packets refused", usize::from(packet.refusal.is_some()));
             let sheets = valuation.kept_beside() && verdicts.kept_beside();
-            assert!(numbers.kept_beside() && facts.kept_beside() && sheets, "policy {bytes:?}\nmessage {offer:?}");
+            assert!(numbers.kept_beside() && facts.kept_beside() && sheets, "policy {bytes:?}\nmessages {offers:?}");
         }
     });
     seen.at_least(1_000, "accepted");
+    seen.at_least(1_000, "taken in packets");
     seen.at_least(100, "refused");
+    seen.at_least(100, "packets refused");
 }

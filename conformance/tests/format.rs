@@ -4,7 +4,7 @@ use conformance::inputs::{self, Size};
 use conformance::process::{printed, root, show};
 use oracle::generate::Random;
 use oracle::reading::Verdict;
-use oracle::{Answer, Buffers, Look, Refusal};
+use oracle::{Answer, Buffers, Look, PacketAnswer, Refusal};
 use std::fs;
 use std::process::Command;
 
@@ -72,9 +72,20 @@ fn counted(column: usize) -> Buffers {
 }
 
 /// A refusal as the document writes it, "7 at 3".
-fn refused(text: &str) -> Answer {
+fn refusal(text: &str) -> Refusal {
     let (number, place) = text.split_once(" at ").unwrap();
-    Answer::Refused(Refusal { number: number.parse().unwrap(), place: place.parse().unwrap() })
+    Refusal { number: number.parse().unwrap(), place: place.parse().unwrap() }
+}
+
+fn refused(text: &str) -> Answer {
+    Answer::Refused(refusal(text))
+}
+
+/// A state under this policy after its opening.
+fn opened(policy: &[u8]) -> Buffers {
+    let mut buffers = sized(policy);
+    assert_eq!(conformance::open(policy, &mut buffers), Answer::Done);
+    buffers
 }
 
 /// The bytes in a cell of a table, none where it holds no code.
@@ -102,8 +113,7 @@ fn the_worked_messages_are_taken() {
     let words: Vec<&str> = text.split_whitespace().collect();
     assert!(words.join(" ").contains("2 verdicts stand: at minute 10 rule 0 is kept, and so is rule 1."));
     let policy = worked_policy();
-    let mut buffers = sized(&policy);
-    conformance::open(&policy, &mut buffers);
+    let mut buffers = opened(&policy);
     let messages: Vec<Vec<u8>> = blocks(&text).into_iter().map(worked).collect();
     assert_eq!(conformance::receive(&policy, &messages[0], &mut buffers), Answer::Received(2));
     for rule in [0, 1] {
@@ -111,6 +121,27 @@ fn the_worked_messages_are_taken() {
         assert_eq!(look, Look::Verdict(Verdict::Satisfied));
     }
     assert_eq!(conformance::receive(&policy, &messages[1], &mut buffers), Answer::Received(2));
+}
+
+/// Each line of the packet says at which byte its message starts.
+#[test]
+fn the_worked_packet_is_taken() {
+    let text = section("### A worked packet");
+    let words = text.split_whitespace().collect::<Vec<_>>().join(" ");
+    assert!(words.contains("all 3 are taken, and 3 verdicts stand."));
+    assert!(words.contains("the packet has 22 bytes: 2 are taken, and the answer is 7 at 22."));
+    let (policy, packet) = (small_policy(), worked(blocks(&text)[0]));
+    let mut start = 0;
+    for line in blocks(&text)[0].lines() {
+        assert!(line.contains(&format!("  byte {start}: ")), "{line}");
+        start += worked(line).len();
+    }
+    let mut buffers = opened(&policy);
+    let whole = conformance::receive_packet(&policy, &packet, &mut buffers);
+    assert_eq!(whole, PacketAnswer { taken: 3, refusal: None });
+    assert_eq!(buffers.verdicts.iter().filter(|code| **code != 0).count(), 3);
+    let cut = conformance::receive_packet(&policy, &packet[..packet.len() - 1], &mut opened(&policy));
+    assert_eq!(cut, PacketAnswer { taken: 2, refusal: Some(refusal("7 at 22")) });
 }
 
 #[test]
@@ -133,11 +164,19 @@ fn the_policies_are_answered_as_the_document_says() {
 fn the_messages_are_answered_as_the_document_says() {
     let policy = small_policy();
     for row in rows(&section("## What is refused"), "| message |") {
-        let mut buffers = sized(&policy);
-        conformance::open(&policy, &mut buffers);
-        let answer = conformance::receive(&policy, &cell_bytes(&row[0]), &mut buffers);
+        let answer = conformance::receive(&policy, &cell_bytes(&row[0]), &mut opened(&policy));
         let taken = matches!(answer, Answer::Received(_));
         assert!(if row[1] == "taken" { taken } else { answer == refused(&row[1]) }, "{row:?}: {answer:?}");
+    }
+}
+
+#[test]
+fn the_packets_are_answered_as_the_document_says() {
+    let policy = small_policy();
+    for row in rows(&section("## What is refused"), "| packet |") {
+        let answer = conformance::receive_packet(&policy, &cell_bytes(&row[0]), &mut opened(&policy));
+        let refusal = (row[2] != "no").then(|| refusal(&row[2]));
+        assert_eq!(answer, PacketAnswer { taken: row[1].parse().unwrap(), refusal }, "{row:?}");
     }
 }
 

@@ -25,7 +25,7 @@ fn archive_and_oracle_agree_after_every_take() {
         let (size, lists, most) = KINDS[number % KINDS.len()];
         for _ in 0..lists {
             let policy = inputs::policy(random, size);
-            let offers = offers(random, &policy, most);
+            let offers = inputs::offers(random, &policy, most);
             seen.one(&format!("{size:?} lists"));
             list(random, &policy, &offers, seen);
         }
@@ -84,24 +84,6 @@ fn the_largest_policy_with_many_observations() {
     for what in ["taken before", "kept", "broken"] {
         seen.at_least(2_000, what);
     }
-}
-
-/// Bytes to offer: messages of one trace, damaged and stray ones, some of another trace, and noise.
-fn offers(random: &mut Random, policy: &Policy, most: usize) -> Vec<Vec<u8>> {
-    let most = random.between(0, most);
-    let trace = inputs::trace(random, policy, most / 2);
-    let mut offers = if random.once_in(3) {
-        inputs::sent(random, policy, &trace, most)
-    } else {
-        generate::offers(random, policy, &trace, most)
-    };
-    if random.once_in(2) {
-        let other = inputs::trace(random, policy, most / 2);
-        offers.extend(generate::offers(random, policy, &other, most / 3));
-    }
-    offers.extend((0..most / 6).map(|_| inputs::noise(random, 20)));
-    random.shuffle(&mut offers);
-    offers
 }
 
 /// Opens, whatever the buffers hold, and offers the bytes one by one.

@@ -1,5 +1,6 @@
 #!/usr/bin/env python3
-"""Writes the vectors to `stdin`, and to `stdout` what a reader made from 01's section "The slip" alone, apart from the crate, says of them."""
+"""Writes the vectors to `stdin`, and to `stdout` what a reader made from 01's section "The slip" and 02's request 1 alone,
+apart from the crate, says of them."""
 import os
 import random
 
@@ -12,9 +13,8 @@ class Cut(Exception):
     pass
 
 
-def slip(sizes, data):
-    """What the slip says, or why it is turned away, in words."""
-    marks, stations, minutes = sizes
+def first(sizes, data):
+    """What the first slip says, or why it is turned away, and how many bytes are handed back, in words."""
     at = 0
 
     def take(n):
@@ -33,9 +33,13 @@ def slip(sizes, data):
         named = [k for k in range(32) if found['map'] >> k & 1]
         packed = ''.join(f'{b:08b}'[::-1] for b in take((len(named) + 7) // 8))
     except Cut:
-        return f'refused 7 at {len(data)}'
-    if at < len(data):
-        return f'refused 7 at {at}'
+        return f'refused 7 at {len(data)} left 0'
+    return f'{told(sizes, bits, found, named, packed, bad)} left {len(data) - at}'
+
+
+def told(sizes, bits, found, named, packed, bad):
+    """What a slip says that has all its bytes."""
+    marks, stations, minutes = sizes
     bad = bad or '1' in packed[len(named):] or any(k >= marks for k in named) or found['station'] >= stations
     who = f"{found['station']} {found['minute']} {found['count']}"
     if bits & 16:
@@ -55,7 +59,7 @@ def about(text):
 def vector(sizes, data):
     marks, stations, minutes = sizes
     text = ' '.join(f'{b:02X}' for b in [marks, stations, minutes % 256, minutes // 256, *data])
-    lines.append((text, ': ' + slip(sizes, bytes(data))))
+    lines.append((text, ': ' + first(sizes, bytes(data))))
 
 
 def write(station=None, minute=None, count=None, named=None, values=None, alive=False, more=0):
@@ -70,20 +74,79 @@ def write(station=None, minute=None, count=None, named=None, values=None, alive=
     return [bits, *out]
 
 
+SMALL = [bytes.fromhex(text) for text in [
+    '0C 01 00 01 00 00 00 00', '0E 02 00 02 00 01 00 00 00 01', '06 03 00 03 00', '10', '00', '', '04 02 00', '12 01 00',
+    '0C 01 00 01 00 00 00 01', '16 04 00 02 00', '16 05 00 02 00', '06 04 00 03 00', '0E 03 00 01 00 01 00 00 00 00',
+    '0E 02 00 01 00 01 00 00 00 00', '16 04 00 01 00']]
+A, B, D, TEN, ZERO = SMALL[:5]
+
+
+def packets():
+    """02: several slips end to end."""
+    rng = random.Random(2)
+    about('two slips of the small shift end to end')
+    for one in SMALL[:5] + [SMALL[6]]:
+        for two in SMALL[:5] + [SMALL[6]]:
+            vector(K, one + two)
+    about('three of them')
+    for three in [A + B + D, B + A + D, D + B + A, TEN + A + B, TEN * 3, A + ZERO + B, ZERO + A + B, ZERO * 3]:
+        vector(K, three)
+    about('a bad slip and A: a bit past bit 4, a written 0, a spare bit, past the card, no count, an alive slip with a mark')
+    for more in [32, 64, 128]:
+        vector(K, bytes(write(count=1, named=1, values=1, more=more)) + A)
+    for bad in [write(station=0, count=1), write(minute=0, count=1), write(count=0), write(count=1, named=0),
+                write(count=1, named=1, values=2), write(count=1, named=2, values=1), write(station=1, count=1),
+                write(minute=4, count=1), write(minute=5, alive=True), write(minute=1), write(named=1, values=0, alive=True)]:
+        vector(K, bytes(bad) + A)
+    about('A and a cut B; an alive slip and a bad one, and a cut A')
+    for n in range(1, len(B)):
+        vector(K, A + B[:n])
+    for n in range(1, len(A)):
+        vector(K, TEN + A[:n])
+        vector(K, ZERO + A[:n])
+    about('a cut mark map and cut values, also of a slip that is bad')
+    for bits in [0x08, 0x0C, 0x0F, 0x18, 0xE8, 0xFF]:
+        for n in range(8):
+            vector(WIDE, bytes([bits]) + bytes(n))
+            vector(WIDE, bytes([bits]) + b'\xFF' * n)
+    about('an alive slip and 15 bytes')
+    for tail in [b'\x00', b'\x10', b'\xFF']:
+        vector(K, TEN + tail * 15)
+    about('the longest slip and 1 to 50 bytes')
+    longest = bytes(write(15, 1023, 65535, 2 ** 32 - 1, 0x12345678))
+    for n in [1, 13, 14, 15, 50]:
+        vector(WIDE, longest + (longest * 4)[:n])
+    about('64 bytes alike')
+    for data in [b'\x10', b'\x00', b'\x04', b'\x08', b'\x0F', b'\x1F', b'\xFF']:
+        vector(WIDE, data * 64)
+    about('random slips end to end, some with a byte changed')
+    for _ in range(100):
+        sizes = (rng.randint(1, 32), rng.randint(1, 16), rng.randint(1, 1024))
+        data = bytearray(b''.join(bytes(some(rng, sizes)) for _ in range(rng.randint(1, 4))))
+        if rng.random() < 0.5:
+            data[rng.randrange(min(14, len(data)))] = rng.randrange(256)
+        vector(sizes, data[:rng.choice([len(data), len(data), rng.randint(0, len(data))])])
+
+
+def some(rng, sizes):
+    """A random slip, of the card as a rule."""
+    marks, stations, minutes = sizes
+    alive = rng.random() < 0.3
+    named = 0 if alive or rng.random() < 0.3 else rng.getrandbits(32) & ((1 << marks) - 1)
+    return write(rng.randrange(stations) or None, rng.randrange(minutes) or None, rng.randint(1, 9), named or None,
+                 rng.getrandbits(named.bit_count()) if named else None, alive)
+
+
 def main():
-    small = [bytes.fromhex(text) for text in [
-        '0C 01 00 01 00 00 00 00', '0E 02 00 02 00 01 00 00 00 01', '06 03 00 03 00', '10', '00', '', '04 02 00', '12 01 00',
-        '0C 01 00 01 00 00 00 01', '16 04 00 02 00', '16 05 00 02 00', '06 04 00 03 00', '0E 03 00 01 00 01 00 00 00 00',
-        '0E 02 00 01 00 01 00 00 00 00', '16 04 00 01 00']]
     about('the slips of the small shift, under K')
-    for data in small:
+    for data in SMALL:
         vector(K, data)
     about('each of them cut at every length')
-    for data in small:
+    for data in SMALL:
         for n in range(len(data)):
             vector(K, data[:n])
     about('each of them with a byte after it')
-    for data in small[:5] + small[6:]:
+    for data in SMALL[:5] + SMALL[6:]:
         vector(K, data + b'\x00')
         vector(K, data + b'\xFF')
     about('bits 5, 6 and 7, also where it is cut')
@@ -142,6 +205,7 @@ def main():
     about('every field written')
     vector(WIDE, write(15, 1023, 65535, 2 ** 32 - 1, 0x12345678))
     vector(WIDE, write(15, 1024, 65535, alive=True))
+    packets()
     here = os.path.dirname(os.path.abspath(__file__))
     with open(f'{here}/stdin', 'w') as out:
         out.writelines(text + '\n' for text, _ in lines)

@@ -1,6 +1,6 @@
-//! A second evaluator, written apart from the monitor and from document 01 alone, to compare the monitor with.
+//! A second evaluator, written apart from the monitor and from documents 01 and 02 alone, to compare the monitor with.
 //!
-//! It is meant to be read beside document 01: quantifiers are loops, sums are sums, and nothing is fast that need
+//! It is meant to be read beside them: quantifiers are loops, sums are sums, and nothing is fast that need
 //! not be. Where a large policy would take minutes, a quicker form stands beside the plain one and is tested equal.
 //!
 //! | module | what it holds |
@@ -12,13 +12,13 @@
 //! | `trace` | one run of the components, and what it could have sent |
 //! | `knowledge` | the four buffers: soundness, what a message fixes, conflicts, known time points |
 //! | `reading` | the three-valued and the two-valued reading, and the verdicts |
-//! | `monitor` | the calls: open, receive, lookup |
+//! | `monitor` | the calls: open, receive, receive_packet, lookup |
 //! | `program` | the printing program |
 //! | `brute` | every trace of a tiny policy, and what must hold over all of them |
 //! | `generate` | random policies, messages, traces, damage and program inputs |
 //!
-//! A harness that links the monitor calls both with the same bytes and compares [`Answer`] and [`Buffers`]
-//! after every call.
+//! A harness that links the monitor calls both with the same bytes and compares [`Answer`] or [`PacketAnswer`], and
+//! [`Buffers`], after every call.
 #![forbid(unsafe_code)]
 
 pub mod brute;
@@ -35,6 +35,6 @@ pub mod trace;
 pub mod truth;
 
 pub use knowledge::Buffers;
-pub use monitor::{lookup, open, receive, Answer, Look};
+pub use monitor::{lookup, open, receive, receive_packet, Answer, Look, PacketAnswer};
 pub use policy::Policy;
 pub use refusal::Refusal;

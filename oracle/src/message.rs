@@ -1,4 +1,4 @@
-//! The message (slip of document 01) and its reader.
+//! The message (slip of document 01) and its reader, which also reads the first message of a packet.
 
 use crate::encoding::{read_fields, Fields};
 use crate::policy::Policy;
@@ -28,25 +28,33 @@ pub enum Event {
     Alive { minute: usize, number: usize },
 }
 
-/// The message that these bytes encode: 7 before 8.
+/// The message that these bytes encode, for a single take: it "tests, before 8, that this part is empty", the part that
+/// follows the first message.
 pub fn read(policy: &Policy, bytes: &[u8]) -> Result<Message, Refusal> {
+    let (message, rest) = read_first(policy, bytes);
+    if !rest.is_empty() {
+        return refuse(TRUNCATED_MESSAGE, bytes.len() - rest.len());
+    }
+    message
+}
+
+/// The first message of these bytes, 7 before 8, and the part that follows it: "on 7 the part handed back is empty, on 8
+/// it is what follows the slip".
+pub fn read_first<'a>(policy: &Policy, bytes: &'a [u8]) -> (Result<Message, Refusal>, &'a [u8]) {
+    let cut = (refuse(TRUNCATED_MESSAGE, bytes.len()), &[][..]);
     let Some(fields) = read_fields(bytes, 0, &FIELD_SIZES) else {
-        return refuse(TRUNCATED_MESSAGE, bytes.len());
+        return cut;
     };
     let named = fields.value(PROPOSITIONS) as u32;
     let value_bytes = (named.count_ones() as usize).div_ceil(8);
-    let end = fields.end + value_bytes;
-    if bytes.len() < end {
-        return refuse(TRUNCATED_MESSAGE, bytes.len());
-    }
-    if bytes.len() > end {
-        return refuse(TRUNCATED_MESSAGE, end);
-    }
-    let values = spread(named, &bytes[fields.end..end]);
-    match (values, well_formed(policy, &fields)) {
+    let Some((value_bytes, rest)) = bytes[fields.end..].split_at_checked(value_bytes) else {
+        return cut;
+    };
+    let message = match (spread(named, value_bytes), well_formed(policy, &fields)) {
         (Some(values), true) => Ok(message(&fields, named, values)),
         _ => refuse(BAD_MESSAGE, 0),
-    }
+    };
+    (message, rest)
 }
 
 /// "Value bit j (from the lowest bit of the first byte) belongs to the j-th named mark, lowest first, and spare bits

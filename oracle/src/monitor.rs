@@ -1,5 +1,5 @@
-//! The calls: open (opening), receive (take) and lookup (look), with their checks in document 01's order. A refusal
-//! writes nothing.
+//! The calls: open (opening), receive (take), receive_packet (packet call of document 02) and lookup (look), with their
+//! checks in document 01's order. A refusal writes nothing; of a packet "it is meant of each take in the packet".
 
 use crate::knowledge::{conflict, sound, verdicts_size, Buffers};
 use crate::message;
@@ -15,6 +15,14 @@ pub enum Answer {
     /// The message is accepted, and so many verdicts stand.
     Received(usize),
     Refused(Refusal),
+}
+
+/// What receive_packet answers: how many messages it took, and why the next one, or the call itself, was refused.
+#[derive(Clone, Copy, Debug, PartialEq, Eq)]
+pub struct PacketAnswer {
+    pub taken: usize,
+    /// "With its place counted from the packet's start."
+    pub refusal: Option<Refusal>,
 }
 
 /// What lookup answers.
@@ -53,6 +61,28 @@ pub fn receive(policy: &[u8], message: &[u8], buffers: &mut Buffers) -> Answer {
     }
 }
 
+/// A packet: checks 1 to 6, also where it is empty; then it "takes slips until the packet ends or one is refused, and
+/// leaves everything as the same takes one by one would". A message that ends early is all that is left of the packet.
+pub fn receive_packet(policy: &[u8], packet: &[u8], buffers: &mut Buffers) -> PacketAnswer {
+    let checked = match checked_knowledge(policy, buffers) {
+        Err(refusal) => return PacketAnswer { taken: 0, refusal: Some(refusal) },
+        Ok(checked) => checked,
+    };
+    let mut taken = 0;
+    let mut rest = packet;
+    while !rest.is_empty() {
+        let start = packet.len() - rest.len();
+        let (_, after) = message::read_first(&checked, rest);
+        let message = &rest[..rest.len() - after.len()];
+        if let Answer::Refused(Refusal { number, place }) = receive(policy, message, buffers) {
+            return PacketAnswer { taken, refusal: Some(Refusal { number, place: start + place }) };
+        }
+        taken += 1;
+        rest = after;
+    }
+    PacketAnswer { taken, refusal: None }
+}
+
 /// A look: checks 1 to 5, the verdict sheet only, and then 10; it gives the code at rule times M + minute.
 pub fn lookup(policy: &[u8], verdicts: &[u8], rule: usize, minute: usize) -> Look {
     match checked_cell(policy, verdicts, rule, minute) {
@@ -70,12 +100,18 @@ fn checked_policy(policy: &[u8], buffers: &Buffers) -> Result<Policy, Refusal> {
     Ok(policy)
 }
 
-/// Checks 1 to 9.
-fn checked_message(policy: &[u8], message: &[u8], buffers: &Buffers) -> Result<(Policy, message::Message), Refusal> {
+/// Checks 1 to 6.
+fn checked_knowledge(policy: &[u8], buffers: &Buffers) -> Result<Policy, Refusal> {
     let policy = checked_policy(policy, buffers)?;
     if !sound(&policy, buffers) {
         return refuse(CORRUPT_KNOWLEDGE, 0);
     }
+    Ok(policy)
+}
+
+/// Checks 1 to 9.
+fn checked_message(policy: &[u8], message: &[u8], buffers: &Buffers) -> Result<(Policy, message::Message), Refusal> {
+    let policy = checked_knowledge(policy, buffers)?;
     let message = message::read(&policy, message)?;
     if conflict(&policy, buffers, &message) {
         return refuse(CONFLICT, 0);

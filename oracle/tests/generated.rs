@@ -1,12 +1,14 @@
 //! Random policies and messages from tiny to the largest: the quicker forms equal the plain ones, encodings are read
-//! back, refusals change nothing and all of them occur, and what is known in full is read in full.
+//! back, a packet is its takes one by one, refusals change nothing and all of them occur, and what is known in full is
+//! read in full.
 
 use oracle::generate::{self, Limits, Random, LARGEST, MEDIUM, SMALL, TINY};
 use oracle::knowledge::{sound, time_points, time_points_of_many};
 use oracle::policy::{Formula, Policy};
 use oracle::program::run;
 use oracle::reading::{two_valued_verdicts, valuation, valuation_of_many, verdicts};
-use oracle::{lookup, message, open, policy, receive, Answer, Buffers, Look};
+use oracle::trace::Trace;
+use oracle::{lookup, message, open, policy, receive, receive_packet, Answer, Buffers, Look, PacketAnswer, Refusal};
 
 #[test]
 fn encodings_are_read_back() {
@@ -45,6 +47,62 @@ fn the_quicker_reading_equals_the_plain_sums() {
             assert_eq!(valuation_of_many(&policy, &buffers), valuation(&policy, &buffers));
         }
     }
+}
+
+#[test]
+fn the_first_message_is_read_as_it_is_alone() {
+    let mut random = Random::new(17);
+    for _ in 0..2_000 {
+        let policy = generate::policy(&mut random, &SMALL);
+        let trace = generate::trace(&mut random, &policy, 1);
+        let offers = right_lengths(&mut random, &policy, &trace, 2);
+        let packet = offers.concat();
+        let (message, rest) = message::read_first(&policy, &packet);
+        assert_eq!((message, rest), (message::read(&policy, &offers[0]), &packet[offers[0].len()..]));
+    }
+}
+
+/// Messages of the trace and stray ones, none of them cut or followed by bytes.
+fn right_lengths(random: &mut Random, policy: &Policy, trace: &Trace, count: usize) -> Vec<Vec<u8>> {
+    let mut offer = |_| match random.below(count) {
+        0 => generate::stray_message(random, policy),
+        _ => generate::encode_message(&generate::message(random, policy, trace)),
+    };
+    (0..count).map(&mut offer).collect()
+}
+
+#[test]
+fn a_packet_is_its_takes_one_by_one() {
+    let mut random = Random::new(18);
+    let mut seen = [0; 11];
+    for round in 0..1_500 {
+        let limits = if round % 10 == 0 { MEDIUM } else { SMALL };
+        let policy = generate::policy(&mut random, &limits);
+        let trace = generate::trace(&mut random, &policy, 1);
+        let bytes = generate::encode_policy(&policy);
+        let mut buffers = Buffers::sized(&policy);
+        open(&bytes, &mut buffers);
+        let count = random.between(2, 6);
+        let offers = right_lengths(&mut random, &policy, &trace, count);
+        let mut alone = buffers.clone();
+        let expected = one_by_one(&bytes, &offers, &mut alone);
+        assert_eq!(receive_packet(&bytes, &offers.concat(), &mut buffers), expected);
+        assert_eq!(buffers, alone);
+        seen[expected.refusal.map_or(0, |refusal| refusal.number as usize)] += 1;
+    }
+    assert!([0, 8, 9].into_iter().all(|number| seen[number] >= 50), "{seen:?}");
+}
+
+/// Single takes until one is refused.
+fn one_by_one(policy: &[u8], offers: &[Vec<u8>], buffers: &mut Buffers) -> PacketAnswer {
+    let mut start = 0;
+    for (taken, offer) in offers.iter().enumerate() {
+        if let Answer::Refused(Refusal { number, place }) = receive(policy, offer, buffers) {
+            return PacketAnswer { taken, refusal: Some(Refusal { number, place: start + place }) };
+        }
+        start += offer.len();
+    }
+    PacketAnswer { taken: offers.len(), refusal: None }
 }
 
 /// How many minutes past its own a subformula may look.

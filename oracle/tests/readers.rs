@@ -5,7 +5,7 @@ use oracle::message::{self, Event, Message};
 use oracle::policy::{self, Formula, Policy, Subformula, Temporal};
 use oracle::reading::Verdict;
 use oracle::refusal::*;
-use oracle::{lookup, open, receive, Answer, Buffers, Look, Refusal};
+use oracle::{lookup, open, receive, receive_packet, Answer, Buffers, Look, PacketAnswer, Refusal};
 
 /// A refusal of the policy reader.
 fn policy_refusal(bytes: &[u8]) -> (u8, usize) {
@@ -271,6 +271,30 @@ fn a_bad_message_is_8() {
     }
 }
 
+/// The first message's refusal, if it has one, and what follows the message.
+fn first(bytes: &[u8]) -> (Option<(u8, usize)>, &[u8]) {
+    let (message, rest) = message::read_first(&sizes(), bytes);
+    (message.err().map(|Refusal { number, place }| (number, place)), rest)
+}
+
+#[test]
+fn the_first_message_and_the_rest() {
+    let whole = [0x0F, 1, 1, 0, 1, 0, 3, 0, 0, 0, 0, 0x10, 0xFF];
+    assert_eq!(first(&whole), (None, &[0x10, 0xFF][..]));
+    assert_eq!(first(&whole[..11]), (None, &[][..]));
+    assert_eq!(first(&[0x10, 0x10]), (None, &[0x10][..]));
+    // On 7 nothing is handed back.
+    for length in 0..11 {
+        assert_eq!(first(&whole[..length]), (Some((7, length)), &[][..]));
+    }
+    // On 8 it is what follows the message.
+    assert_eq!(first(&[0x00]), (Some((8, 0)), &[][..]));
+    assert_eq!(first(&[0x00, 0x10, 0xFF]), (Some((8, 0)), &[0x10, 0xFF][..]));
+    assert_eq!(first(&[0xE0, 0]), (Some((8, 0)), &[0][..]));
+    assert_eq!(first(&[0x0C, 1, 0, 4, 0, 0, 0, 0, 7]), (Some((8, 0)), &[7][..]));
+    assert_eq!(first(&[0x0C, 1, 0, 0xFF, 0xFF, 0xFF, 0xFF, 0, 0, 0, 0, 7]), (Some((8, 0)), &[7][..]));
+}
+
 /// The policy of `sizes` with its buffers after opening.
 fn fresh() -> (Vec<u8>, Buffers) {
     let bytes = with_lines(&[RULE]);
@@ -406,6 +430,56 @@ fn a_conflict_is_9() {
     }
     assert_eq!(offered(&policy, &[0x06, 2, 0, 2, 0], &buffers), Answer::Received(2));
     assert_eq!(offered(&policy, &[0x0F, 1, 1, 0, 2, 0, 1, 0, 0, 0, 1], &buffers), Answer::Received(2));
+}
+
+/// A single take tests that no byte follows before 8 and 9.
+#[test]
+fn bytes_that_follow_a_message_are_7() {
+    let (policy, buffers) = fresh();
+    for message in [&[0x00, 0x10][..], &[0x10, 0x10], &[0x24, 1, 0, 0x10], &[0x04, 2, 0, 0x10]] {
+        let place = message.len() - 1;
+        let cut = Answer::Refused(Refusal { number: TRUNCATED_MESSAGE, place });
+        assert_eq!(offered(&policy, message, &buffers), cut, "{message:02X?}");
+        assert_ne!(offered(&policy, &message[..place], &buffers), cut, "{message:02X?}");
+    }
+}
+
+/// A packet, whose first message is refused if it has any.
+fn none_taken(policy: &[u8], packet: &[u8], buffers: &Buffers) -> Option<(u8, usize)> {
+    let mut after = buffers.clone();
+    let PacketAnswer { taken, refusal } = receive_packet(policy, packet, &mut after);
+    assert_eq!((taken, &after), (0, buffers));
+    refusal.map(|Refusal { number, place }| (number, place))
+}
+
+/// Filled with what no call writes, in the sheets.
+#[test]
+fn a_packet_of_which_none_is_taken_changes_nothing() {
+    let (policy, mut buffers) = fresh();
+    buffers.valuation.fill(9);
+    buffers.verdicts.fill(9);
+    assert_eq!(none_taken(&policy, &[], &buffers), None);
+    assert_eq!(none_taken(&policy, &[0x04, 1], &buffers), Some((7, 2)));
+    assert_eq!(none_taken(&policy, &[0x00, 0x10], &buffers), Some((8, 0)));
+    assert_eq!(none_taken(&policy, &[0x04, 2, 0, 0x10], &buffers), Some((9, 0)));
+}
+
+/// An empty packet has the checks 1 to 6 too, and they keep their places.
+#[test]
+fn a_packet_checks_1_to_6_first() {
+    let (policy, fresh) = fresh();
+    let mut wrong_size = fresh.clone();
+    wrong_size.verdicts.push(0);
+    let mut unsound = fresh.clone();
+    unsound.numbers[0] = 1;
+    for packet in [&[][..], &[0x10, 0x10], &[0x10, 0x00], &[0x00], &[0x04]] {
+        assert_eq!(none_taken(&policy[..4], packet, &fresh), Some((1, 4)));
+        assert_eq!(none_taken(&[2, 17, 3, 0, 1, 0x20], packet, &fresh), Some((2, 1)));
+        assert_eq!(none_taken(&with_lines(&[RULE, &[0x40]]), packet, &fresh), Some((3, 6)));
+        assert_eq!(none_taken(&with_lines(&[TRUE]), packet, &wrong_size), Some((4, 0)));
+        assert_eq!(none_taken(&policy, packet, &wrong_size), Some((5, 0)));
+        assert_eq!(none_taken(&policy, packet, &unsound), Some((6, 0)));
+    }
 }
 
 #[test]

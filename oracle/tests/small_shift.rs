@@ -3,7 +3,7 @@
 use oracle::program::run;
 use oracle::reading::Verdict;
 use oracle::refusal::{BAD_MESSAGE, CONFLICT, OUT_OF_RANGE, TRUNCATED_MESSAGE};
-use oracle::{lookup, open, policy, receive, Answer, Buffers, Look, Refusal};
+use oracle::{lookup, open, policy, receive, receive_packet, Answer, Buffers, Look, PacketAnswer, Refusal};
 
 /// Mark 0 at some time in the last 2 minutes.
 const K: &[u8] = &[0x01, 0x01, 0x04, 0x00, 0x03, 0x00, 0x01, 0x01, 0x35, 0x04, 0x01, 0x02, 0x00];
@@ -93,6 +93,41 @@ fn refused_messages() {
     assert_eq!(then(K, &[A], &other), refused(CONFLICT, 0));
     assert_eq!(then(K, &[A, B], &[0x16, 0x05, 0x00, 0x02, 0x00]), refused(BAD_MESSAGE, 0));
     assert_eq!(then(K, &[A, B], &[0x06, 0x04, 0x00, 0x03, 0x00]), refused(BAD_MESSAGE, 0));
+}
+
+/// What a packet of these pieces, end to end, is answered, and the buffers after it.
+fn packet(pieces: &[&[u8]]) -> (PacketAnswer, Buffers) {
+    let mut buffers = fresh(K);
+    (receive_packet(K, &pieces.concat(), &mut buffers), buffers)
+}
+
+#[test]
+fn packets_that_are_taken() {
+    let taken = |taken| PacketAnswer { taken, refusal: None };
+    assert_eq!(packet(&[]), (taken(0), fresh(K)));
+    assert_eq!(packet(&[A]), (taken(1), after(K, &[A])));
+    assert_eq!(packet(&[&[0x10], &[0x10]]), (taken(2), fresh(K)));
+    for order in [[A, B, D], [A, D, B], [B, A, D], [B, D, A], [D, A, B], [D, B, A]] {
+        assert_eq!(packet(&order), (taken(3), after(K, &[A, B, D])));
+    }
+}
+
+#[test]
+fn packets_of_which_a_message_is_refused() {
+    let refused = |taken, number, place| PacketAnswer { taken, refusal: Some(Refusal { number, place }) };
+    // Cut short, at the packet's end.
+    assert_eq!(packet(&[A, B, &D[..4]]), (refused(2, TRUNCATED_MESSAGE, 22), after(K, &[A, B])));
+    assert_eq!(packet(&[A, &B[..1]]), (refused(1, TRUNCATED_MESSAGE, 9), after(K, &[A])));
+    assert_eq!(packet(&[&A[..7]]), (refused(0, TRUNCATED_MESSAGE, 7), fresh(K)));
+    // Bad, in each position, at its first byte.
+    let bad = |taken, place| refused(taken, BAD_MESSAGE, place);
+    assert_eq!(packet(&[&[0x00], A, B]), (bad(0, 0), fresh(K)));
+    assert_eq!(packet(&[A, &[0x00], B]), (bad(1, 8), after(K, &[A])));
+    assert_eq!(packet(&[A, B, &[0x00]]), (bad(2, 18), after(K, &[A, B])));
+    // In conflict with what is known before the packet, or with what it brought.
+    let conflict = |taken, place| refused(taken, CONFLICT, place);
+    assert_eq!(packet(&[&[0x04, 0x02, 0x00], A]), (conflict(0, 0), fresh(K)));
+    assert_eq!(packet(&[A, &[0x12, 0x01, 0x00], B]), (conflict(1, 8), after(K, &[A])));
 }
 
 #[test]

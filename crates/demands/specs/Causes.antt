@@ -85,6 +85,13 @@ pub unwritten : (a : Checked) (x : State) (o : Outcome) → reply (o .answer) �
 unwritten C.Accepted x o e r f = absurd (not-accepted r (ap reply (sym f) ∙ e))
 unwritten (C.Refused q) x o e r f = refl
 
+-- the checks of the slip: 7 to 9
+pub slip-number : (s : List ℕ) (x : State) (b : List ℕ) (r : Refusal) → Refuses (slip-checks (policy-of s) x b) r → (7 ≤ refusal-number r) × (refusal-number r ≤ 9)
+slip-number s x b r (here e) = omega arith
+slip-number s x b r (there p (here e)) = omega arith
+slip-number s x b r (there p (there q (here e))) = omega arith
+slip-number s x b r (there p (there q (there u (here e)))) = omega arith
+
 -- ---- the policy's part
 
 module _ (s : List ℕ) (k : Policy-reader-causes s) where
@@ -165,7 +172,7 @@ module _ (s : List ℕ) (k : Policy-reader-causes s) where
         (via (both-ways passed-sizes (via (one-passes clean CorruptKnowledge) (sound-law (sizes-of s) (x .known))))
         (λ q. record { policy = q .0 .0; sized = q .0 .1; sound = q .1 }, λ q. ((q .policy, q .sized), q .sound)))
 
-    record-number : (r : Refusal) → Refuses firsts r → (1 ≤ refusal-number r) × (refusal-number r ≤ 6)
+    pub record-number : (r : Refusal) → Refuses firsts r → (1 ≤ refusal-number r) × (refusal-number r ≤ 6)
     record-number r q = go (refused-where (opening-checks s x) (check clean CorruptKnowledge ∷ []) r q)
       where
         go : Refuses (opening-checks s x) r ⊎ (All-passed (opening-checks s x) × Refuses (check clean CorruptKnowledge ∷ []) r) → (1 ≤ refusal-number r) × (refusal-number r ≤ 6)
@@ -190,20 +197,13 @@ module _ (s : List ℕ) (k : Policy-reader-causes s) where
       abbrev slip : List Check
       slip = slip-checks (policy-of s) x b
 
-      -- 7 to 9
-      slip-number : (r : Refusal) → Refuses slip r → (7 ≤ refusal-number r) × (refusal-number r ≤ 9)
-      slip-number r (here e) = omega arith
-      slip-number r (there p (here e)) = omega arith
-      slip-number r (there p (there q (here e))) = omega arith
-      slip-number r (there p (there q (there u (here e)))) = omega arith
-
       message-number : (r : Refusal) → Refuses (message-checks (sizes-of s) b) r → refusal-number r ≤ 8
       message-number r (here e) = omega arith
       message-number r (there p (here e)) = omega arith
       message-number r (there p (there q (here e))) = omega arith
 
       early : (r : Refusal) → refusal-number r ≤ 6 → Refuses (take-checks s x b) r ↔ Refuses firsts r
-      early r l = refused-before firsts slip r (λ q. omega (arith, slip-number r q))
+      early r l = refused-before firsts slip r (λ q. omega (arith, slip-number s x b r q))
 
       late : (r : Refusal) → (refusal-number r ≤ 6 → ⊥) → Refuses (take-checks s x b) r ↔ (Passed s x × Refuses slip r)
       late r n = via (refused-after firsts slip r (λ q. n (record-number r q .1))) (both-ways passed-record same)
@@ -278,7 +278,7 @@ module _ (s : List ℕ) (k : Policy-reader-causes s) where
         where
           either : (r : Refusal) → Refuses firsts r ⊎ (All-passed firsts × Refuses slip r) → (1 ≤ refusal-number r) × (refusal-number r ≤ 9)
           either r (inl h) = omega (arith, record-number r h)
-          either r (inr h) = omega (arith, slip-number r (h .1))
+          either r (inr h) = omega (arith, slip-number s x b r (h .1))
 
           in-range : (n at : ℕ) → Refuses (take-checks s x b) (refusal-of n at) × (refusal-number (refusal-of n at) ≡ n) × (refusal-place (refusal-of n at) ≡ at) → (1 ≤ n) × (n ≤ 9)
           in-range n at q = omega (arith, either (refusal-of n at) (refused-where firsts slip (refusal-of n at) (q .0)), q .1)

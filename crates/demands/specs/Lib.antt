@@ -5,5 +5,8 @@ pub mod Runs
 pub mod Causes
 pub mod Looks
 pub mod Proved
+pub mod Walks
+pub mod Stops
+pub mod Packets
 pub mod Small
 pub mod Past

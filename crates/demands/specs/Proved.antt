@@ -46,7 +46,7 @@ use Rattle.demands.specs.Looks.{look-causes}
 limits : (s : List ℕ) → policy-answer s ≡ C.Accepted → Limits (sizes-of s)
 limits s e = let p = policy-proper s e in record { propositions-most = p .propositions .high; minutes-most = p .minutes .high }
 
-ranged : (s : List ℕ) → policy-answer s ≡ C.Accepted → (b : List ℕ) → Well-formed (sizes-of s) b → Fits (sizes-of s) (meaning-of b)
+pub ranged : (s : List ℕ) → policy-answer s ≡ C.Accepted → (b : List ℕ) → Well-formed (sizes-of s) b → Fits (sizes-of s) (meaning-of b)
 ranged s e b w = fits (sizes-of s) (policy-proper s e .propositions .high) b w
 
 -- ---- demand 1
@@ -152,6 +152,12 @@ module _ (s : List ℕ) (x : State) (b : List ℕ) where
       still i t n (inl y) = absurd (n (y .0) (y .1))
       still i t n (inr y) = y
 
+-- a call's answer is a refusal where its reply is
+pub refused : (a : Answer) (r : Refusal) → (a ≡ Refused r) ↔ (reply a ≡ C.Refused r)
+refused Done r = (λ e. ap reply e, λ e. absurd (not-accepted r (sym e)))
+refused (Received n) r = (λ e. ap reply e, λ e. absurd (not-accepted r (sym e)))
+refused (Refused q) r = (λ e. ap reply e, λ e. ap Refused (same-refusal q r e))
+
 pub demand-2 : Demand-2
 demand-2 = record {
   sheets = λ s x b t. rw (left s x b t .state) (sheets-over (policy-of s) (next s x b));
@@ -167,11 +173,6 @@ demand-2 = record {
   fits = λ z k h. agreed z k h;
 }
   where
-    refused : (a : Answer) (r : Refusal) → (a ≡ Refused r) ↔ (reply a ≡ C.Refused r)
-    refused Done r = (λ e. ap reply e, λ e. absurd (not-accepted r (sym e)))
-    refused (Received n) r = (λ e. ap reply e, λ e. absurd (not-accepted r (sym e)))
-    refused (Refused q) r = (λ e. ap reply e, λ e. ap Refused (same-refusal q r e))
-
     conflict : (s : List ℕ) (x : State) (b : List ℕ) → Passed s x → Well-formed (sizes-of s) b
         → (receive s x b .answer ≡ Refused Conflict) ↔ (Some-trace (sizes-of s) (x .known) (meaning-of b) → ⊥)
     conflict s x b ok w =

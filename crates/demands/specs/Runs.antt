@@ -1,11 +1,10 @@
 -- Takes under an accepted card, one and a list of them: each keeps the state up, and is accepted exactly when a trace admits it together with
 -- what was accepted before.
 use Prim.Native.Nat.{ℕ, _<_}
-use mathlib.Core.Path.{_≡_, refl, sym, ap, _∙_}
+use mathlib.Core.Path.{_≡_, refl, sym, _∙_}
 use mathlib.Core.Bool.{Bool, true, false, true≢false}
 use mathlib.Core.Logic.{_⊎_, inl, inr, _↔_, _≢_}
 use mathlib.Core.List.{List, [], _∷_, _++_, List·Memᴰ, List·Memᴰ·head, List·Memᴰ·tail, List·Memᴰ·not-nil, List·Memᴰ·eq-of-singleton, List·Memᴰ·append-cases, Memᴰ·append-left, Memᴰ·append-right}
-use lib.ListN.{length}
 use Rattle.kleene.specs.Truth.{Truth, unknown, true3, false3, code-of}
 use Rattle.mtl.specs.Algebra.{two}
 use Rattle.mtl.specs.Reading.{reading}
@@ -15,23 +14,23 @@ use Rattle.policy.specs.declared.Policy.{Policy}
 use Rattle.refusal.specs.declared.Answer.{Answer as Checked}
 use Rattle.refusal.specs.declared.Answer.the-variants as C
 use Rattle.refusal.specs.declared.Refusal.the-variants.{Conflict}
-use Rattle.refusal.specs.Checks.{Check, check, first-failed, and-then, Passed as All-passed, none, pass}
-use Rattle.refusal.specs.Laws.{passing-law, in-order, passed-both, passed-parts, not-accepted}
-use Rattle.policy.specs.Format.{policy-checks, answer-of as policy-answer, policy-of}
+use Rattle.refusal.specs.Checks.{check, first-failed, Passed as All-passed, none, pass}
+use Rattle.refusal.specs.Laws.{passing-law, passed-both, passed-parts, not-accepted}
+use Rattle.policy.specs.Format.{answer-of as policy-answer, policy-of}
 use Rattle.policy.specs.Proper.{Proper, formula-at}
 use Rattle.message.specs.Format.{message-checks, answer-of as message-answer}
 use Rattle.message.specs.Fixes.{Message, Fits, Well-formed, meaning-of}
 use Rattle.knowledge.specs.Trace.{Trace, Admits, Admits-all, time-point, trace-world}
 use Rattle.knowledge.specs.Knowledge.{Knowledge, Sound, Agrees, is-point, sound, admits, world}
-use Rattle.knowledge.specs.Laws.{Limits, sound-law, point-law}
+use Rattle.knowledge.specs.Laws.{Limits, point-law}
 use Rattle.knowledge.specs.Conflict.{admits-law}
 use Rattle.knowledge.specs.Worlds.{point-so, world-so}
 use Rattle.valuation.specs.Sheets.{value}
 use Rattle.monitor.specs.declared.Answer.{Answer}
 use Rattle.monitor.specs.declared.Answer.the-variants.{Done, Received, Refused}
-use Rattle.monitor.specs.State.{State, Outcome, unless, Sized, opened, settled, slip-checks, take-message, record-checks, opening-checks, receive, Call, Receive, step, run-calls, Taken, took, accepted-by, accepted-from, Offers, by-take, Offered}
+use Rattle.monitor.specs.State.{State, Outcome, unless, Sized, opened, settled, slip-checks, take-message, receive, Call, Receive, step, run-calls, Taken, took, accepted-by, accepted-from, Offers, by-take, Offered}
 use Rattle.monitor.specs.Demands.{shown, rule-line, sizes-of, Some-trace, Plain, kept, broken, Sends}
-use Rattle.monitor.specs.Laws.{knowledge-sized, sized-law}
+use Rattle.monitor.specs.Laws.{knowledge-sized, plain-take}
 use Rattle.demands.specs.Invariant.{Kept-up, relabel, opened-up, next-up}
 use Rattle.demands.specs.Keeping.{shown-at, verdict-point, marked, agrees-law, stands}
 
@@ -47,27 +46,15 @@ plain-of p w r t unknown b open3 n e h = absurd (n refl)
 plain-of p w r t true3 true is-true n e h = kept e (h .0 refl)
 plain-of p w r t false3 false is-false n e h = broken e (λ z. true≢false (sym (h .1 z)))
 
+-- lists of calls, one after another
+pub run-append : (s : List ℕ) (cs ds : List Call) (x : State) → run-calls s x (cs ++ ds) ≡ run-calls s (run-calls s x cs) ds
+run-append s [] ds x = refl
+run-append s (c ∷ cs) ds x = run-append s cs ds (step s x c .state)
+
 module _ (s : List ℕ) (passed : policy-answer s ≡ C.Accepted) (proper : Proper (policy-of s))
     (ranged : (b : List ℕ) → Well-formed (sizes-of s) b → Fits (sizes-of s) (meaning-of b)) where
   limits : Limits (sizes-of s)
   limits = record { propositions-most = proper .propositions .high; minutes-most = proper .minutes .high }
-
-  -- the first checks pass, so a take is that of its message
-  module _ (x : State) (z : Sized (policy-of s) x) (k : Sound (sizes-of s) (x .known)) where
-    abbrev firsts : List Check
-    firsts = record-checks s (x .known) (length (x .valuation)) (length (x .verdicts))
-
-    first-pass : first-failed firsts ≡ C.Accepted
-    unfolding policy-answer
-    first-pass =
-        passing-law firsts .1 (passed-both (opening-checks s x) _ (passed-both (policy-checks s) _ (passing-law (policy-checks s) .0 passed)
-        (pass (sized-law (policy-of s) x .1 z) none)) (pass (sound-law (sizes-of s) (x .known) .1 k) none))
-
-    pub plain-take : (b : List ℕ) → receive s x b ≡ take-message (policy-of s) x b
-    unfolding receive
-    plain-take b =
-        ap (λ (c : Checked). unless c x (settled (policy-of s) x (meaning-of b)))
-        (in-order firsts (slip-checks (policy-of s) x b) ∙ ap (λ (a : Checked). and-then a (first-failed (slip-checks (policy-of s) x b))) first-pass)
 
   -- a message that passes its checks is well-formed, and nothing known contradicts it
   passed-slip : (x : State) (b : List ℕ) → (first-failed (slip-checks (policy-of s) x b) ≡ C.Accepted)
@@ -90,7 +77,7 @@ module _ (s : List ℕ) (passed : policy-answer s ≡ C.Accepted) (proper : Prop
 
   receive-up : (x : State) (Q : Message → Type 0) → Kept-up (policy-of s) x Q → (b : List ℕ)
       → Kept-up (policy-of s) (receive s x b .state) (λ y. Q y ⊎ List·Memᴰ y (took (receive s x b .answer) b))
-  receive-up x Q up b = rw (plain-take x (up .sized) (up .exact .sound) b) (go (first-failed (slip-checks (policy-of s) x b)) refl)
+  receive-up x Q up b = rw (plain-take s x passed (up .sized) (up .exact .sound) b) (go (first-failed (slip-checks (policy-of s) x b)) refl)
     where
       out : Checked → Outcome
       out a = unless a x (settled (policy-of s) x (meaning-of b))
@@ -157,7 +144,7 @@ module _ (s : List ℕ) (passed : policy-answer s ≡ C.Accepted) (proper : Prop
       ↔ (Well-formed (sizes-of s) b × ((w : Trace (sizes-of s)) × ((y : Message) → Q y → Admits (sizes-of s) w y) × Admits (sizes-of s) w (meaning-of b)))
   accept-law x Q up b =
       let law = taken-law x b (up .sized) (up .exact .sound) in
-      rw (plain-take x (up .sized) (up .exact .sound) b) (
+      rw (plain-take s x passed (up .sized) (up .exact .sound) b) (
         λ u. let r = law .0 u in (r .0, (r .1 .0, agrees-law (policy-of s) x Q up (r .1 .0) .0 (r .1 .1), r .1 .2)),
         λ r. law .1 (r .0, (r .1 .0, agrees-law (policy-of s) x Q up (r .1 .0) .1 (r .1 .1), r .1 .2)),
       )
@@ -177,14 +164,10 @@ module _ (s : List ℕ) (passed : policy-answer s ≡ C.Accepted) (proper : Prop
       drop y (inl z) = absurd z
       drop y (inr h) = h
 
-  run-append : (cs ds : List Call) (x : State) → run-calls s x ((cs ++ ds)) ≡ run-calls s (run-calls s x cs) ds
-  run-append [] ds x = refl
-  run-append (c ∷ cs) ds x = run-append cs ds (step s x c .state)
-
   pub stand : (cs ds : List Call) (r t : ℕ) → r < policy-of s .rules → t < sizes-of s .minutes
       → shown (policy-of s) (from-open cs) r t ≢ 0 → shown (policy-of s) (from-open (cs ++ ds)) r t ≡ shown (policy-of s) (from-open cs) r t
   stand cs ds r t h b n =
-      rw (run-append cs ds (opened (policy-of s)))
+      rw (run-append s cs ds (opened (policy-of s)))
       (stands (policy-of s) proper (from-open cs) (run-calls s (from-open cs) ds) _ _ (start cs)
       (run-up ds (from-open cs) _ (start cs)) (λ m q. inl q) r t h b n)
 
@@ -241,7 +224,7 @@ module _ (s : List ℕ) (passed : policy-answer s ≡ C.Accepted) (proper : Prop
         → Admits (sizes-of s) w (meaning-of b) → List·Memᴰ (meaning-of b) (accepted-by s x c)
     call-takes w a (Receive d) b (by-take c) e m =
         let u : Taken (receive s x c .answer) = accept-law x Q up c .1 (e, (w, a, m)) in
-        let p = plain-take x (up .sized) (up .exact .sound) c in
+        let p = plain-take s x passed (up .sized) (up .exact .sound) c in
         rw p (took-it x c (rw p at u))
 
   offered-later : {b : List ℕ} {c : Call} {cs : List Call} → Offered b cs → Offered b (c ∷ cs)

@@ -2,20 +2,23 @@
 -- buffers held before the opening.
 use Prim.Native.Nat.{ℕ}
 use mathlib.Core.Path.{_≡_, refl, sym, ap, _∙_}
-use mathlib.Core.List.{List, [], _∷_, map}
+use mathlib.Core.List.{List, [], _∷_, _++_, map}
 use lib.ListN.{length}
 use Rattle.bits.specs.Digits.{digit, below, expanded}
 use Rattle.bits.specs.Bits.{bit}
-use Rattle.refusal.specs.declared.Refusal.the-variants.{BadMessage, Conflict}
+use Rattle.refusal.specs.declared.Refusal.the-variants.{TruncatedMessage, BadMessage, Conflict}
 use Rattle.mtl.specs.Reading.{since, until, deep, reading}
 use Rattle.policy.specs.Format.{line-length, fields-at, keeps-kind, good-line, meaning, formula-of, subformula-of, subformula-at, heading-checks, offset, line-checks, lines-checks, lines-up-to, subformulas-of, rule-lines, rules-up-to, closing-checks, policy-checks, answer-of as policy-answer, policy-of}
-use Rattle.message.specs.Format.{component-of, minute-of, number-of, named-of, packed-of, length-of, fields-of, good-alive, good-observation, all-written, good-fields, answer-of as message-answer, event-in}
+use Rattle.message.specs.Format.{component-of, minute-of, number-of, named-of, packed-of, length-of, fields-of, good-alive, good-observation, all-written, good-fields, answer-of as message-answer, event-in, used-of, messages-of}
 use Rattle.message.specs.Fixes.{meaning-of}
 use Rattle.knowledge.specs.Knowledge.{follow, steady, rises, level, word-sound, words-agree, noted, valued, number, is-point, is-none, sound, fresh, stored, free, admits}
 use Rattle.valuation.specs.Sheets.{valuation-of, verdicts-of, standing}
 use Rattle.monitor.specs.declared.Answer.{Answer}
 use Rattle.monitor.specs.declared.Answer.the-variants.{Done, Received, Refused}
-use Rattle.monitor.specs.State.{State, lent, sizes-fit, opened, open-state, receive, Receive, run-calls, after}
+use Rattle.monitor.specs.declared.PacketAnswer.{PacketAnswer}
+use Rattle.monitor.specs.declared.Stop.{Stop}
+use Rattle.monitor.specs.declared.Stop.the-variants as P
+use Rattle.monitor.specs.State.{State, lent, sizes-fit, opened, open-state, receive, Packet-outcome, receive-packet, Receive, run-calls, after}
 use Rattle.demands.specs.Proved.{opens}
 
 -- "mark 0 at some time in the last 2 minutes"
@@ -84,6 +87,33 @@ pub record Small-shift (x y : State) : Type 0 where
   pub until-blank : sheet U y (false-at-3 ∷ []) ≡ row 0 0 0 0
   pub until-broken : sheet U y (false-at-2 ∷ alive-at-4 ∷ []) ≡ row 0 0 2 0
 
+-- 02, request 1: packets from the opening on. x are the buffers before the opening under K
+abbrev frame : State → List ℕ → Packet-outcome
+frame x b = receive-packet K (after K x []) b
+
+-- how many messages are taken, and where the packet stops
+abbrev ended : ℕ → Stop → PacketAnswer
+ended n e = record { taken = n; stop = e }
+
+pub record Small-packets (x : State) : Type 0 where
+  -- A, B and D in one packet, or in another order
+  pub abd : frame x (A ++ B ++ D) .answer ≡ ended 3 P.AtEnd
+  pub abd-sheet : frame x (A ++ B ++ D) .state .verdicts ≡ row 2 0 1 1
+  pub dba-state : frame x (D ++ B ++ A) .state ≡ frame x (A ++ B ++ D) .state
+  -- it ends inside its second message: 7 at the packet's length, and A remains taken
+  pub cut : frame x (A ++ (0x06 ∷ 0x03 ∷ [])) .answer ≡ ended 1 (P.Refused (TruncatedMessage 2) 10)
+  pub cut-sheet : frame x (A ++ (0x06 ∷ 0x03 ∷ [])) .state .verdicts ≡ row 2 0 0 0
+  -- `00` is 8 at its first byte, and B behind it is not taken
+  pub bad : frame x (A ++ (0x00 ∷ B)) .answer ≡ ended 1 (P.Refused BadMessage 8)
+  pub bad-sheet : frame x (A ++ (0x00 ∷ B)) .state .verdicts ≡ row 2 0 0 0
+  -- `12 01 00` after A is 9 at its first byte
+  pub conflict : frame x (A ++ (0x12 ∷ 0x01 ∷ 0x00 ∷ D)) .answer ≡ ended 1 (P.Refused Conflict 8)
+  -- the first message is refused, and the packet is empty: nothing is written
+  pub first-bad : frame x (0x00 ∷ A) .answer ≡ ended 0 (P.Refused BadMessage 0)
+  pub first-bad-state : frame x (0x00 ∷ A) .state ≡ after K x []
+  pub empty : frame x [] .answer ≡ ended 0 P.AtEnd
+  pub empty-state : frame x [] .state ≡ after K x []
+
 -- what is assumed of x and y below is so for any buffers of the cards' sizes: both openings are done
 pub opens-sized : (n f v d : List ℕ) → length n ≡ 5 → length f ≡ 8 → length v ≡ 12 → length d ≡ 4
     → (open-state K (lent n f v d) .answer ≡ Done) × (open-state U (lent n f v d) .answer ≡ Done)
@@ -124,4 +154,36 @@ small-shift x y d e =
       total = reply-from K x k (A ∷ B ∷ []) D;
       until-blank = sheet-from U y u (false-at-3 ∷ []);
       until-broken = sheet-from U y u (false-at-2 ∷ alive-at-4 ∷ []);
+    }
+
+module _ (x : State) (e : open-state K x .state ≡ opened (policy-of K)) where
+  frame-from : (b : List ℕ) → frame x b ≡ receive-packet K (opened (policy-of K)) b
+  frame-from b = ap (λ (y : State). receive-packet K y b) e
+
+  answer-from : (b : List ℕ) → frame x b .answer ≡ receive-packet K (opened (policy-of K)) b .answer
+  answer-from b = ap (λ (o : Packet-outcome). o .answer) (frame-from b)
+
+  verdicts-from : (b : List ℕ) → frame x b .state .verdicts ≡ receive-packet K (opened (policy-of K)) b .state .verdicts
+  verdicts-from b = ap (λ (o : Packet-outcome). o .state .verdicts) (frame-from b)
+
+  left-from : (b : List ℕ) → frame x b .state ≡ receive-packet K (opened (policy-of K)) b .state
+  left-from b = ap (λ (o : Packet-outcome). o .state) (frame-from b)
+
+pub small-packets : (x : State) → open-state K x .answer ≡ Done → Small-packets x
+unfolding digit below expanded bit since until deep reading line-length fields-at keeps-kind good-line meaning formula-of subformula-of subformula-at heading-checks offset line-checks lines-checks lines-up-to subformulas-of rule-lines rules-up-to closing-checks policy-checks policy-answer policy-of component-of minute-of number-of named-of packed-of length-of fields-of good-alive good-observation all-written good-fields message-answer event-in meaning-of noted valued number is-point is-none sound fresh stored free admits valuation-of verdicts-of standing sizes-fit opened receive follow steady rises level word-sound words-agree receive-packet messages-of used-of
+small-packets x d =
+    let k : open-state K x .state ≡ opened (policy-of K) = opens K x d .state in
+    record {
+      abd = answer-from x k (A ++ B ++ D);
+      abd-sheet = verdicts-from x k (A ++ B ++ D);
+      dba-state = left-from x k (D ++ B ++ A) ∙ sym (left-from x k (A ++ B ++ D));
+      cut = answer-from x k (A ++ (0x06 ∷ 0x03 ∷ []));
+      cut-sheet = verdicts-from x k (A ++ (0x06 ∷ 0x03 ∷ []));
+      bad = answer-from x k (A ++ (0x00 ∷ B));
+      bad-sheet = verdicts-from x k (A ++ (0x00 ∷ B));
+      conflict = answer-from x k (A ++ (0x12 ∷ 0x01 ∷ 0x00 ∷ D));
+      first-bad = answer-from x k (0x00 ∷ A);
+      first-bad-state = left-from x k (0x00 ∷ A) ∙ sym (state-from K x k []);
+      empty = answer-from x k [];
+      empty-state = left-from x k [] ∙ sym (state-from K x k []);
     }

@@ -2,11 +2,12 @@
 use mathlib.Core.Path.{_≡_, refl, sym, ap, ap₂, subst, _∙_}
 use mathlib.Core.Bool.{Bool, true, false, cond}
 use mathlib.Core.List.{List}
-use Prim.Native.Nat.{ℕ, _+_, _≤_, _<_}
+use Prim.Native.Nat.{ℕ, _+_, _-_, _≤_, _<_}
 use native.Mathlib.Omega.{arith}
-use native.Mathlib.Nat.{add-zero}
+use native.Mathlib.Nat.{add-zero, add-comm}
 use lib.Dec.{ltb, leb}
-use lib.ListN.{length}
+use lib.ListN.{length, take, drop}
+use borrow.Rule.Slice.PartAt.{part-to-end}
 use borrow.Author.Tests.{le-leb, lt-leb, leb-true, leb-false}
 use Rattle.encoding.specs.Fields.{has, size, long-of, field8}
 use Rattle.encoding.specs.Layout.{value-at}
@@ -16,7 +17,7 @@ use Rattle.message.specs.declared.Fields.{Fields}
 use Rattle.message.specs.declared.Event.{Event}
 use Rattle.message.specs.declared.Length.{Length}
 use Rattle.message.specs.declared.Length.the-variants.{Whole, EndsEarly}
-use Rattle.message.specs.Format.{map-of, minute-at, number-at, named-at, values-at, value-bytes, packed-at, named-of, length-of, measured, event-in, accepted-with}
+use Rattle.message.specs.Format.{map-of, minute-at, number-at, named-at, values-at, value-bytes, packed-at, named-of, length-of, measured, event-in, accepted-with, used-of, rest-of}
 
 -- what the code finds of a field's size, by its bit of the map
 pub sized : {r n : ℕ} {found bit : Bool} → r ≡ size found n → found ≡ bit → (r ≡ size bit n) × (r ≤ n)
@@ -90,3 +91,9 @@ told s e q = subst (Told s) (sym e ∙ q) (tells s)
 pub accepted : {f g : Fields} {e : Event} → e ≡ event-in f → f ≡ g
     → record { answer = Accepted; component = f .component; event = e } ≡ accepted-with g
 accepted p q = rw (p, q)
+
+-- the part of a slice from n on, as `&s[n..]` has it: the bytes and their place
+pub part-from : (s : List ℕ) (b o : ℕ) {n : ℕ} → n ≡ used-of s → (take (length s - n) (drop n s) ≡ rest-of s) × _≡_ {A = ℕ × ℕ} (b, n + o) (b, o + used-of s)
+part-from s b o {n} e =
+    subst (λ (m : ℕ). (take (length s - n) (drop n s) ≡ drop m s) × _≡_ {A = ℕ × ℕ} (b, n + o) (b, o + m)) e
+    (part-to-end s n, ap {B = ℕ × ℕ} (λ (k : ℕ). (b, k)) (add-comm n o))

@@ -1,6 +1,7 @@
 -- The messages of 01's small shift, under K's sizes: one mark, one station, four minutes.
 use mathlib.Core.Path.{_≡_, refl}
-use mathlib.Core.List.{[], _∷_}
+use Prim.Native.Nat.{ℕ}
+use mathlib.Core.List.{List, [], _∷_, _++_}
 use Rattle.bits.specs.Digits.{digit, below, expanded}
 use Rattle.refusal.specs.declared.Refusal.the-variants.{TruncatedMessage, BadMessage}
 use Rattle.policy.specs.declared.Sizes.{Sizes}
@@ -8,7 +9,7 @@ use Rattle.refusal.specs.declared.Answer.the-variants.{Accepted}
 use Rattle.message.specs.declared.Event.{Event}
 use Rattle.message.specs.declared.Event.the-variants.{Observation, Alive}
 use Rattle.message.specs.declared.Decoded.{Decoded}
-use Rattle.message.specs.Format.{component-of, minute-of, number-of, named-of, packed-of, fields-of, length-of, good-alive, good-observation, all-written, good-fields, event-in, answer-of, refused-with, decode-of}
+use Rattle.message.specs.Format.{component-of, minute-of, number-of, named-of, packed-of, fields-of, length-of, good-alive, good-observation, all-written, good-fields, event-in, answer-of, refused-with, decode-of, first-answer, first-of, used-of, rest-of, messages-of}
 
 abbrev sizes : Sizes
 sizes = record { propositions = 1; components = 1; minutes = 4 }
@@ -65,4 +66,42 @@ rules = record {
   spare-value = refl;
   spare-bit = refl;
   written-zero = refl;
+}
+
+-- 02, request 1: packets of the small shift's messages.
+abbrev A : List ℕ
+A = 0x0C ∷ 0x01 ∷ 0x00 ∷ 0x01 ∷ 0x00 ∷ 0x00 ∷ 0x00 ∷ 0x00 ∷ []
+
+abbrev D : List ℕ
+D = 0x06 ∷ 0x03 ∷ 0x00 ∷ 0x03 ∷ 0x00 ∷ []
+
+pub record Packets : Type 0 where
+  -- the first message, and what follows it
+  pub first : first-of sizes (A ++ D) ≡ says (Observation 0 1 1 0)
+  pub first-rest : rest-of (A ++ D) ≡ D
+  -- 8: what follows the message is handed back; alone it would be 7, at its length
+  pub bad : first-of sizes (0x00 ∷ A) ≡ refused-with BadMessage
+  pub bad-rest : rest-of (0x00 ∷ A) ≡ A
+  pub bad-alone : decode-of sizes (0x00 ∷ A) ≡ refused-with (TruncatedMessage 1)
+  -- 7: nothing is handed back
+  pub early : first-of sizes (0x0C ∷ 0x01 ∷ 0x00 ∷ []) ≡ refused-with (TruncatedMessage 3)
+  pub early-rest : rest-of (0x0C ∷ 0x01 ∷ 0x00 ∷ []) ≡ []
+  -- end to end; the last one may be cut
+  pub three : messages-of (A ++ D ++ A) ≡ A ∷ D ∷ A ∷ []
+  pub cut : messages-of (D ++ (0x0C ∷ 0x01 ∷ [])) ≡ D ∷ (0x0C ∷ 0x01 ∷ []) ∷ []
+  pub empty : messages-of [] ≡ []
+
+pub packets : Packets
+unfolding first-of first-answer used-of messages-of decode-of answer-of event-in good-fields all-written good-observation good-alive length-of fields-of packed-of named-of number-of minute-of component-of expanded below digit
+packets = record {
+  first = refl;
+  first-rest = refl;
+  bad = refl;
+  bad-rest = refl;
+  bad-alone = refl;
+  early = refl;
+  early-rest = refl;
+  three = refl;
+  cut = refl;
+  empty = refl;
 }

@@ -1,9 +1,9 @@
 -- 01, "The slip", as functions of the bytes. Each definition opens with its sentence.
-use Prim.Native.Nat.{ℕ, _+_, _/_, _^_}
+use Prim.Native.Nat.{ℕ, zero, suc, _+_, _/_, _^_}
 use mathlib.Core.Bool.{Bool, true, false, cond, _&&_}
 use mathlib.Core.List.{List, [], _∷_}
 use lib.Dec.{eqb, ltb, leb}
-use lib.ListN.{getD, length}
+use lib.ListN.{getD, length, take, drop}
 use Rattle.bits.specs.Digits.{below, expanded}
 use Rattle.encoding.specs.Fields.{has, long-of, field8, written}
 use Rattle.encoding.specs.Layout.{start, extent, field}
@@ -117,7 +117,7 @@ good-fields z f =
 abbrev pub good-message : Sizes → List ℕ → Bool
 good-message z s = good-fields z (fields-of s)
 
--- ---- the answer
+-- ---- the answer to a message that is taken alone
 
 -- 7 where it ends early, at its length, or where bytes follow, at the first of them; then 8
 abbrev pub message-checks : Sizes → List ℕ → List Check
@@ -154,3 +154,33 @@ with-answer (Refused r) s = refused-with r
 
 unfoldable pub decode-of : Sizes → List ℕ → Decoded
 decode-of z s = with-answer (answer-of z s) s
+
+-- ---- the first message of a byte string, and what follows it (02, request 1)
+
+-- "The slip reader must read the first slip": 7 where it ends early, at the length of what was given; then 8. What follows it is not looked at
+abbrev pub first-checks : Sizes → List ℕ → List Check
+first-checks z s = check (leb (length-of s) (length s)) (TruncatedMessage (length s)) ∷ check (good-message z s) BadMessage ∷ []
+
+unfoldable pub first-answer : Sizes → List ℕ → Answer
+first-answer z s = first-failed (first-checks z s)
+
+unfoldable pub first-of : Sizes → List ℕ → Decoded
+first-of z s = with-answer (first-answer z s) s
+
+-- how many bytes it takes: all there are where it ends early
+unfoldable pub used-of : List ℕ → ℕ
+used-of s = cond (leb (length-of s) (length s)) (length-of s) (length s)
+
+-- ".. and hand back the remaining part of the packet": "on 7 the part handed back is empty, on 8 it is what follows the slip"
+abbrev pub rest-of : List ℕ → List ℕ
+rest-of s = drop (used-of s) s
+
+-- "The new radio fills a frame with as many slips as fit, end to end, without length bytes": the byte strings that a packet offers one by one. No
+-- message is empty, so there are at most as many as bytes
+abbrev pub messages-within : ℕ → List ℕ → List (List ℕ)
+messages-within zero s = []
+messages-within (suc k) [] = []
+messages-within (suc k) (x ∷ xs) = take (used-of (x ∷ xs)) (x ∷ xs) ∷ messages-within k (rest-of (x ∷ xs))
+
+unfoldable pub messages-of : List ℕ → List (List ℕ)
+messages-of s = messages-within (length s) s

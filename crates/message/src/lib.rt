@@ -15,7 +15,8 @@ ghost use lib.Dec.{ltb};
 ghost use lib.ListN.{length};
 ghost use Rattle.bits.specs.Digits.{below, expanded};
 ghost use Rattle.encoding.specs.Fields.{field8};
-ghost use Rattle.message.specs.Format.{minute-at, number-at, named-at, values-at, value-bytes, packed-at, fields-of, length-of, measured, good-alive, good-observation, good-event, all-written, good-fields, event-in, refused-with, decode-of};
+ghost use Rattle.message.specs.Format.{minute-at, number-at, named-at, values-at, value-bytes, packed-at, fields-of, length-of, measured, good-alive, good-observation, good-event, all-written, good-fields, event-in, refused-with, first-of, used-of, rest-of};
+ghost use Rattle.message.specs.Packet.{Part, step-of};
 
 // The bits of the map: which fields follow it, in their order, and whether it is an alive slip.
 const COMPONENT: u8 = 1;
@@ -281,17 +282,14 @@ fn refused(r: Refusal) -> Decoded
     }
 }
 
-// The message, or why it is turned away.
-pub fn decode(s: &[u8], sizes: Sizes) -> Decoded
-    ensures { λ r. ⌜ r ≡ decode-of sizes (now (s .entry)) ⌝ }
+// What the first message says, or why it is turned away: 7 where it ends early, then 8. What follows it is not looked at.
+pub fn decode(packet: &[u8], sizes: Sizes) -> Decoded
+    ensures { λ r. ⌜ r ≡ first-of sizes (now (packet .entry)) ⌝ }
 {
-    match measure(s) {
-        Length::EndsEarly => refused(Refusal::TruncatedMessage(s.len())),
-        Length::Whole(whole) => {
-            if whole != s.len() {
-                return refused(Refusal::TruncatedMessage(whole));
-            }
-            let f = fields_of(s);
+    match measure(packet) {
+        Length::EndsEarly => refused(Refusal::TruncatedMessage(packet.len())),
+        Length::Whole(_) => {
+            let f = fields_of(packet);
             if !good_fields(f, sizes) {
                 return refused(Refusal::BadMessage);
             }
@@ -303,4 +301,53 @@ pub fn decode(s: &[u8], sizes: Sizes) -> Decoded
             }
         }
     }
+}
+
+// What follows it, a part of the caller's slice; nothing where it ends early.
+fn rest_of(packet: &[u8]) -> &[u8]
+    ensures { λ r. ⌜ Part (packet .entry) (used-of (now (packet .entry))) r ⌝ }
+{
+    match measure(packet) {
+        Length::EndsEarly => &packet[packet.len()..],
+        Length::Whole(n) => &packet[n..],
+    }
+}
+
+// What the first message says, and what follows it.
+pub struct First<'a> {
+    pub decoded: Decoded,
+    pub rest: &'a [u8],
+}
+
+// Reads the first message of a packet and hands back the rest (02, request 1).
+pub fn read_first<'a>(packet: &'a [u8], sizes: Sizes) -> First<'a>
+    ensures { λ r. ⌜ (r .decoded ≡ first-of sizes (now (packet .entry)))
+        × Part (packet .entry) (used-of (now (packet .entry))) (r .rest) ⌝ }
+{
+    let decoded = decode(packet, sizes);
+    let rest = rest_of(packet);
+    First { decoded, rest }
+}
+
+// The same as plain data, for callers that hold no reference: what the first message says, and how many bytes follow it.
+pub struct Step {
+    pub decoded: Decoded,
+    pub left: usize,
+}
+
+fn step_of(decoded: Decoded, rest: &[u8]) -> Step
+    ensures { λ r. ⌜ r ≡ step-of decoded (now (rest .entry)) ⌝ }
+{
+    Step {
+        decoded: decoded,
+        left: rest.len(),
+    }
+}
+
+// Reads the first message of a packet and counts the rest.
+pub fn first_step(packet: &[u8], sizes: Sizes) -> Step
+    ensures { λ r. ⌜ r ≡ step-of (first-of sizes (now (packet .entry))) (rest-of (now (packet .entry))) ⌝ }
+{
+    let first = read_first(packet, sizes);
+    step_of(first.decoded, first.rest)
 }

@@ -1,9 +1,11 @@
-// Prints what the message reader answers to the vectors of standard input.
+// Prints what the message reader answers to the vectors of standard input, and how many bytes it hands back.
 //
-// A line is a vector, in hexadecimal with a space between bytes: propositions, components, minutes (2 bytes), then the message.
+// A line is a vector, in hexadecimal with a space between bytes: propositions, components, minutes (2 bytes), then the packet whose first
+// message is read, of at most 64 bytes.
 // A line that starts with '#' says what the next ones are, and is printed as it is.
 use message::Decoded;
 use message::Event;
+use message::Step;
 use policy::Sizes;
 use refusal::Answer;
 use refusal::Refusal;
@@ -62,13 +64,21 @@ fn show_answer(d: Decoded) {
     }
 }
 
+// What the first message says, and how many bytes follow it.
+fn show_step(step: Step) {
+    let decoded = step.decoded;
+    show_answer(decoded);
+    io::write_all(1, b" left");
+    show_number(step.left as u64);
+}
+
 fn show_line(line: &[u8]) {
     io::write_all(1, line);
     if 0 < line.len() && line[0] != b'#' {
         io::write_all(1, b": ");
-        let mut message = [0u8; 32];
-        let n = hex_lines::bytes_from(line, 4, &mut message);
-        show_answer(message::decode(&message[0..n], sizes_of(line)));
+        let mut packet = [0u8; 64];
+        let n = hex_lines::bytes_from(line, 4, &mut packet);
+        show_step(message::first_step(&packet[0..n], sizes_of(line)));
     }
     io::write_all(1, b"\n");
 }

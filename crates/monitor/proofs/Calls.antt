@@ -21,8 +21,8 @@ use Rattle.policy.specs.Laws.{accepted}
 use Rattle.message.specs.declared.Event.{Event}
 use Rattle.message.specs.declared.Decoded.{Decoded}
 use Rattle.message.specs.Format.{message-checks, answer-of as message-answer, decode-of}
-use Rattle.message.specs.Fixes.{Fits, Well-formed, meaning-of}
-use Rattle.message.specs.Laws.{decoded, decoded-answer, fits}
+use Rattle.message.specs.Fixes.{Well-formed, meaning-of}
+use Rattle.message.specs.Laws.{decoded, decoded-answer}
 use Rattle.knowledge.specs.Knowledge.{Knowledge, Sound, sound, admits, Sized as Long}
 use Rattle.knowledge.specs.Laws.{sound-law}
 use Rattle.knowledge.specs.Run.{sent}
@@ -189,10 +189,6 @@ pub hear : (z : Sizes) (b : List ℕ) (d : Decoded) → d ≡ decode-of z b → 
 hear z b d e f =
     let w : Well-formed z b = message-answered z b d C.Accepted e f in
     record { formed = w; same = ap (λ (x : Decoded). sent (x .component) (x .event)) (e ∙ decoded z b w) }
-
--- it is in range
-pub heard-fits : (p : Policy) → Proper p → (b : List ℕ) (component : ℕ) (event : Event) → Heard (p .sizes) b component event → Fits (p .sizes) (sent component event)
-heard-fits p z b component event h = subst (Fits (p .sizes)) (sym (h .same)) (fits (p .sizes) (z .propositions .high) b (h .formed))
 
 module _ (p : Policy) (x : State) (b : List ℕ) where
   -- the message's checks, and then 9

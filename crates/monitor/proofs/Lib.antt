@@ -4,3 +4,5 @@ pub mod Calls
 pub mod Filling
 pub mod Fitting
 pub mod Settling
+pub mod Storing
+pub mod Packets

@@ -1,28 +1,24 @@
--- What the working functions leave, put together: a fresh state, and the state over what is known with a message. Assumes nothing.
+-- What the working functions leave, put together: both sheets over what is known, and a fresh state. Assumes nothing.
 use mathlib.Core.Path.{_≡_, refl, sym, ap, ap₂, _∙_}
-use mathlib.Core.Bool.{true, cond}
+use mathlib.Core.Bool.{cond}
 use mathlib.Core.List.{List, _++_, append-nil}
 use Prim.Native.Nat.{ℕ, suc, _+_, _*_, _%_, _≤_}
 use native.Mathlib.Numerals.{add-one}
 use lib.Dec.{eqb}
 use lib.ListN.{length, take, drop, replicate}
 use lib.Seq.{drop-length, take-length}
-use Rattle.logic.specs.Bools.{both}
 use Rattle.rows.specs.Grid.{table}
 use Rattle.policy.specs.declared.Policy.{Policy}
 use Rattle.policy.specs.Proper.{Proper}
-use Rattle.message.specs.Fixes.{Message, Fits}
-use Rattle.knowledge.specs.Knowledge.{Knowledge, none, Sound, sound, fresh, stored, free, admits}
-use Rattle.knowledge.specs.Knowledge.{Sized as Long}
-use Rattle.knowledge.specs.Laws.{Limits, sound-law}
-use Rattle.knowledge.specs.Store.{store-long}
+use Rattle.knowledge.specs.Knowledge.{Knowledge, none, Sound, fresh}
+use Rattle.knowledge.specs.Laws.{Limits}
 use Rattle.knowledge.specs.Run.{held, Steady-runs, Point-row}
 use Rattle.knowledge.specs.Runs.{runs-of}
 use Rattle.valuation.specs.Rows.{Points}
 use Rattle.valuation.specs.Sheets.{valuation-of, verdicts-of, standing}
 use Rattle.monitor.specs.declared.Answer.the-variants.{Received}
-use Rattle.monitor.specs.State.{Outcome, lent, outcome, Sized, opened, rewritten, settled}
-use Rattle.monitor.specs.Laws.{fresh-sound, sheet-lengths, knowledge-sized, blank-sheet, lengths}
+use Rattle.monitor.specs.State.{Outcome, lent, outcome, Sized, opened, rewritten}
+use Rattle.monitor.specs.Laws.{fresh-sound, sheet-lengths, blank-sheet, lengths}
 
 pub limits : (p : Policy) → Proper p → Limits (p .sizes)
 limits p z = record { propositions-most = z .propositions .high; minutes-most = z .minutes .high }
@@ -103,26 +99,3 @@ module _ (p : Policy) (n f v d : List ℕ) (z : Sized p (lent n f v d)) where
     refreshed v′ d′ r e =
         ap (λ (o : Outcome). o .state) (rewritten-of p (fresh (p .sizes)) n′ f′ v′ d′ r (fresh-numbers n′ a) (all-zero f′ b) e)
         ∙ ap (λ (l : List ℕ). record { known = fresh (p .sizes); valuation = valuation-of p (fresh (p .sizes)); verdicts = l }) (sym (blank-sheet p))
-
--- ---- a message
-
-module _ (p : Policy) (n f v d : List ℕ) (z : Sized p (lent n f v d)) (m : Message) (fits : Fits (p .sizes) m) (ok : admits (p .sizes) (held n f) m ≡ true) where
-  abbrev next : Knowledge
-  next = stored (p .sizes) (held n f) m
-
-  next-sound : Sound (p .sizes) next
-  unfolding admits
-  next-sound = sound-law (p .sizes) next .0 (both (free (p .sizes) (held n f) m) (sound (p .sizes) next) ok .1)
-
-  next-long : Long (p .sizes) next
-  next-long = store-long (p .sizes) (held n f) m (knowledge-sized p (lent n f v d) z) fits
-
-  module _ (n′ f′ : List ℕ) (a : n′ ≡ next .numbers) (b : f′ ≡ next .facts) where
-    pub next-needs : Sized p (lent n′ f′ v d) × Sound (p .sizes) (held n′ f′)
-    next-needs = (
-      record { numbers = ap length a ∙ next-long .numbers; facts = ap length b ∙ next-long .facts; valuation = z .valuation; verdicts = z .verdicts },
-      rw (a, b) next-sound,
-    )
-
-    pub stored-settled : (v′ d′ : List ℕ) (r : ℕ) → outcome (Received r) n′ f′ v′ d′ ≡ rewritten p (held n′ f′) → outcome (Received r) n′ f′ v′ d′ ≡ settled p (lent n f v d) m
-    stored-settled v′ d′ r e = rewritten-of p next n′ f′ v′ d′ r a b e

@@ -1,27 +1,29 @@
--- What was demanded, as types. Read this file first; each statement stands below the sentence that it formalises. `demand-1`, `demand-2`
--- and `demand-3` of the crate demands have these types.
+-- What was demanded, as types. Read this file first; each statement stands below the sentence that it formalises. `demand-1`, `demand-2`,
+-- `demand-3`, `packets` and `demand-3-packets` of the crate demands have these types.
 --
 -- s are the bytes of a card, any bytes; `policy-of s` is what they say where they are accepted. x is a state: the four lent buffers, of any
--- length and content. b are the bytes of a slip, any bytes.
+-- length and content. b are the bytes of a slip, any bytes; where packets are spoken of, b are the bytes of a packet and m those of a slip in it.
 use Prim.Native.Nat.{ℕ, _+_, _*_, _≤_, _<_}
 use mathlib.Core.Path.{_≡_}
 use mathlib.Core.Bool.{Bool, true, cond}
 use mathlib.Core.Logic.{_⊎_, _↔_, _≢_}
-use mathlib.Core.List.{List, _∷_, _++_}
-use lib.ListN.{getD, length}
+use mathlib.Core.List.{List, [], _∷_, _++_, map, List·Memᴰ}
+use lib.ListN.{getD, length, take}
 use Rattle.kleene.specs.Truth.{true3, false3, code-of}
 use Rattle.mtl.specs.Textbook.{Holds}
 use Rattle.refusal.specs.declared.Refusal.{Refusal}
 use Rattle.refusal.specs.declared.Refusal.the-variants.{Conflict}
 use Rattle.refusal.specs.declared.Answer.{Answer as Checked}
 use Rattle.refusal.specs.declared.Answer.the-variants as C
-use Rattle.refusal.specs.Table.{Table}
+use Rattle.refusal.specs.Numbers.{refusal-number}
+use Rattle.refusal.specs.Table.{Table, Packet-table}
 use Rattle.refusal.specs.Checks.{Refused-with}
 use Rattle.policy.specs.declared.Sizes.{Sizes}
 use Rattle.policy.specs.declared.Policy.{Policy}
 use Rattle.policy.specs.Format.{policy-of, count-of, rules-up-to}
 use Rattle.policy.specs.Proper.{formula-at, rules-of, Between, Cut, Misheaded, Misformed, Whole}
-use Rattle.message.specs.Format.{length-of}
+use Rattle.message.specs.Format.{length-of, messages-of}
+use Rattle.message.specs.Packet.{Packed}
 use Rattle.message.specs.Encoded.{Is-message}
 use Rattle.message.specs.Fixes.{Message, Fixes-number, Fixes-fact, Well-formed, meaning-of}
 use Rattle.message.specs.Proper.{Cut as Cut-message}
@@ -34,7 +36,9 @@ use Rattle.monitor.specs.declared.Verdict.the-variants.{Unknown, Satisfi
 use Rattle.monitor.specs.declared.Look.{Look}
 use Rattle.monitor.specs.declared.Look.the-variants as L
 use Rattle.monitor.specs.Lookup.{lookup-of}
-use Rattle.monitor.specs.State.{State, Outcome, Sized, open-state, receive, Call, Receive, after, Taken, accepted, Offered}
+use Rattle.monitor.specs.declared.Stop.{Stop}
+use Rattle.monitor.specs.declared.Stop.the-variants as P
+use Rattle.monitor.specs.State.{State, Outcome, Sized, open-state, receive, Packet-outcome, take-each, receive-packet, Call, Receive, run-calls, after, Taken, accepted-from, accepted, Offered, Entry, Single, Packet, offers-each, run-entries, accepted-entries, takes-entries}
 
 -- ---- words
 
@@ -249,3 +253,133 @@ pub record Demand-3 : Type 0 where
       → ((b : List ℕ) → Well-formed (sizes-of s) b → Offered b xs ↔ Offered b ys)
       → (w : Trace (sizes-of s)) → ((b : List ℕ) → Offered b xs → Well-formed (sizes-of s) b → Admits (sizes-of s) w (meaning-of b))
       → Same s x y xs ys
+
+-- ---- packets (02, request 1)
+
+-- The packet stops at a refusal with this number; its place is "counted from the packet's start"
+pub record Stopped-with (e : Stop) (n at : ℕ) : Type 0 where
+  pub refusal : Refusal
+  pub place : ℕ
+  pub is : e ≡ P.Refused refusal place
+  pub number : refusal-number refusal ≡ n
+  pub counted : place ≡ at
+
+-- byte strings that are taken one after another, and how many bytes they are
+abbrev pub Each-taken : List ℕ → State → List (List ℕ) → Type 0
+Each-taken s x [] = Unit
+Each-taken s x (m ∷ ms) = Taken (receive s x m .answer) × Each-taken s (receive s x m .state) ms
+
+abbrev pub bytes-in : List (List ℕ) → ℕ
+bytes-in [] = 0
+bytes-in (m ∷ ms) = length m + bytes-in ms
+
+-- the takes of packet b come to message m: those before it are taken; it starts at byte `at`, and is offered to the state y
+pub record Comes-to (s : List ℕ) (x : State) (b m : List ℕ) (at : ℕ) (y : State) : Type 0 where
+  pub before : List (List ℕ)
+  pub behind : List (List ℕ)
+  pub cut : messages-of b ≡ before ++ (m ∷ behind)
+  pub taken : Each-taken s x before
+  pub starts : at ≡ bytes-in before
+  pub state : y ≡ run-calls s x (map Receive before)
+
+-- a packet, whose outcome is o: 1 to 9
+pub record Packet-causes (s : List ℕ) (x : State) (b : List ℕ) (o : Packet-outcome) : Type 0 where
+  -- "checks 1 to 6 as a take does", whatever its message: "those checked before 7 keep their places"
+  pub first-six : (m : List ℕ) (n at : ℕ) → n ≤ 6 → Stopped-with (o .answer .stop) n at ↔ Refused-with (reply (receive s x m .answer)) n at
+  -- 7: the packet ends inside a message, so that its place is the packet's length
+  pub seven : (at : ℕ) → Stopped-with (o .answer .stop) 7 at
+      ↔ (Passed s x × (at ≡ length b) × ((m : List ℕ) × (start : ℕ) × (y : State) × Comes-to s x b m start y × (length m < length-of m)))
+  -- 8 and 9: "the slip's first byte"
+  pub eight : (at : ℕ) → Stopped-with (o .answer .stop) 8 at
+      ↔ (Passed s x × ((m : List ℕ) × (y : State) × Comes-to s x b m at y × (length m ≡ length-of m) × (Is-message (sizes-of s) m → ⊥)))
+  pub nine : (at : ℕ) → Stopped-with (o .answer .stop) 9 at
+      ↔ (Passed s x × ((m : List ℕ) × (y : State) × Comes-to s x b m at y × Well-formed (sizes-of s) m
+      × (Some-trace (sizes-of s) (y .known) (meaning-of m) → ⊥)))
+  pub no-other : (n at : ℕ) → Stopped-with (o .answer .stop) n at → (1 ≤ n) × (n ≤ 9)
+  pub at-end : (o .answer .stop ≡ P.AtEnd) ↔ (Passed s x × Each-taken s x (messages-of b))
+  -- "It gives the number taken"
+  pub taken : o .answer .taken ≡ length (accepted-from s x (offers-each s x (messages-of b)))
+  -- "'A refused call changes nothing' is meant of each take in the packet": before the first message is taken, nothing is written
+  pub unwritten : o .answer .taken ≡ 0 → o .state ≡ x
+  -- "An empty packet takes none and writes nothing"
+  pub empty : b ≡ [] → (o .answer .taken ≡ 0) × (o .state ≡ x)
+
+pub record Packets : Type 0 where
+  -- the places are those of 02's sentence
+  pub table : Packet-table
+  -- the byte strings of a packet stand in it end to end, and no other list of them does
+  pub cut : (b : List ℕ) (ms : List (List ℕ)) → Packed b ms ↔ (ms ≡ messages-of b)
+  pub causes : (s : List ℕ) (x : State) (b : List ℕ) → Packet-causes s x b (receive-packet s x b)
+  -- a packet with a message is take after take and nothing else: the checks 1 to 6 are then its first take's
+  pub plain : (s : List ℕ) (x : State) (b : List ℕ) → 0 < length b → receive-packet s x b ≡ take-each s x 0 0 (messages-of b)
+  -- "and leaves everything as the same takes one by one would"
+  pub state : (s : List ℕ) (x : State) (b : List ℕ) → receive-packet s x b .state ≡ run-calls s x (offers-each s x (messages-of b))
+  -- "Slips taken before the refusal remain taken; 'a refused call changes nothing' is meant of each take in the packet": the state is that after the
+  -- messages taken
+  pub remain : (s : List ℕ) (x : State) (b : List ℕ)
+      → receive-packet s x b .state ≡ run-calls s x (map Receive (take (receive-packet s x b .answer .taken) (messages-of b)))
+  -- the takes that it is: of the messages taken and then, if there is one, of the one that is refused
+  pub offered : (s : List ℕ) (x : State) (b : List ℕ)
+      → offers-each s x (messages-of b) ≡ map Receive (take (receive-packet s x b .answer .taken + 1) (messages-of b))
+  -- demand 2, of a packet that took a message
+  pub sheets : (s : List ℕ) (x : State) (b : List ℕ) → 0 < receive-packet s x b .answer .taken → Sheets (policy-of s) (receive-packet s x b .state)
+
+-- ---- demand 3, of lists that hold packets: each take inside a packet counts
+
+-- the state after such a list, the messages that it accepts, and the takes that it is
+abbrev pub after-entries : List ℕ → State → List Entry → State
+after-entries s x es = run-entries s (open-state s x .state) es
+
+abbrev pub accepted-in : List ℕ → State → List Entry → List Message
+accepted-in s x es = accepted-entries s (open-state s x .state) es
+
+abbrev pub takes-of : List ℕ → State → List Entry → List Call
+takes-of s x es = takes-entries s (open-state s x .state) es
+
+-- the byte strings of a list: those of its takes and of its packets, whether they come to be offered or not
+pub data Brings : Entry → List ℕ → Type 0 where
+  alone : (b : List ℕ) → Brings (Single (Receive b)) b
+  inside : (b m : List ℕ) → List·Memᴰ m (messages-of b) → Brings (Packet b) m
+
+pub record Brought (b : List ℕ) (es : List Entry) : Type 0 where
+  pub entry : Entry
+  pub is-entry : List·Memᴰ entry es
+  pub brings : Brings entry b
+
+pub record Demand-3-packets : Type 0 where
+  -- the list of takes that has, in each packet's place, the byte strings it offered leaves the same state, and accepts the same messages in the same
+  -- order
+  pub takes : (s : List ℕ) (x : State) (es : List Entry)
+      → (after-entries s x es ≡ after s x (takes-of s x es)) × (accepted-in s x es ≡ accepted s x (takes-of s x es))
+  -- so demand 3's claims hold of it: a take after such a list,
+  pub accept : (s : List ℕ) (x : State) → open-state s x .answer ≡ Done → (es : List Entry) (b : List ℕ)
+      → Taken (receive s (after-entries s x es) b .answer)
+      ↔ (Well-formed (sizes-of s) b × ((w : Trace (sizes-of s)) × Admits-all (sizes-of s) w (accepted-in s x es) × Admits (sizes-of s) w (meaning-of b)))
+  -- and each message m of a packet that it comes to, those before it being taken
+  pub accept-in : (s : List ℕ) (x : State) → open-state s x .answer ≡ Done → (es : List Entry) (b : List ℕ)
+      → (before : List (List ℕ)) (m : List ℕ) (behind : List (List ℕ)) → messages-of b ≡ before ++ (m ∷ behind)
+      → length before ≤ receive-packet s (after-entries s x es) b .answer .taken
+      → (length before < receive-packet s (after-entries s x es) b .answer .taken)
+      ↔ (Well-formed (sizes-of s) m
+      × ((w : Trace (sizes-of s)) × Admits-all (sizes-of s) w (accepted-in s x es ++ map meaning-of before) × Admits (sizes-of s) w (meaning-of m)))
+  pub stand : (s : List ℕ) (x : State) → open-state s x .answer ≡ Done → (es ds : List Entry) (r t : ℕ) → r < policy-of s .rules → t < sizes-of s .minutes
+      → shown (policy-of s) (after-entries s x es) r t ≢ 0
+      → shown (policy-of s) (after-entries s x (es ++ ds)) r t ≡ shown (policy-of s) (after-entries s x es) r t
+  pub truth : (s : List ℕ) (x : State) → open-state s x .answer ≡ Done → (es : List Entry) (r t : ℕ) → r < policy-of s .rules → t < sizes-of s .minutes
+      → shown (policy-of s) (after-entries s x es) r t ≢ 0 → (w : Trace (sizes-of s)) → Admits-all (sizes-of s) w (accepted-in s x es)
+      → Plain (policy-of s) w r t (shown (policy-of s) (after-entries s x es) r t)
+  -- two lists that offer the same well-formed slips, in takes or in packets
+  pub same : (s : List ℕ) (x y : State) → open-state s x .answer ≡ Done → open-state s y .answer ≡ Done → (xs ys : List Entry)
+      → ((b : List ℕ) → Well-formed (sizes-of s) b → Offered b (takes-of s x xs) ↔ Offered b (takes-of s y ys))
+      → (w : Trace (sizes-of s))
+      → ((b : List ℕ) → Offered b (takes-of s x xs) → Well-formed (sizes-of s) b → Admits (sizes-of s) w (meaning-of b))
+      → Same s x y (takes-of s x xs) (takes-of s y ys) × (after-entries s x xs ≡ after-entries s y ys)
+  -- and where all that they bring is well-formed and some one shift could have sent it, no matter how it is packed: all of it is taken, and the state is
+  -- the same
+  pub repacked : (s : List ℕ) (x y : State) → open-state s x .answer ≡ Done → open-state s y .answer ≡ Done → (xs ys : List Entry)
+      → ((b : List ℕ) → Brought b xs ↔ Brought b ys)
+      → (w : Trace (sizes-of s))
+      → ((b : List ℕ) → Brought b xs → Well-formed (sizes-of s) b × Admits (sizes-of s) w (meaning-of b))
+      → ((b : List ℕ) → Brought b xs ↔ Offered b (takes-of s x xs))
+      × Same s x y (takes-of s x xs) (takes-of s y ys)
+      × (after-entries s x xs ≡ after-entries s y ys)

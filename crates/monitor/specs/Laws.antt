@@ -14,12 +14,18 @@ use Rattle.kleene.specs.Truth.{code-of}
 use Rattle.bits.specs.Bits.{bit, bit-of-zero}
 use Rattle.logic.specs.Bools.{both, pair}
 use Rattle.rows.specs.Grid.{table, table-length, table-at, place-of, in-grid, place-in}
+use Rattle.refusal.specs.declared.Answer.{Answer as Checked}
+use Rattle.refusal.specs.declared.Answer.the-variants as C
+use Rattle.refusal.specs.Checks.{first-failed, and-then, pass, none as none-left}
+use Rattle.refusal.specs.Laws.{passing-law, in-order, passed-both}
 use Rattle.policy.specs.declared.Policy.{Policy}
+use Rattle.policy.specs.Format.{policy-checks, answer-of, policy-of}
+use Rattle.message.specs.Fixes.{meaning-of}
 use Rattle.policy.specs.Proper.{rules-of}
 use Rattle.knowledge.specs.Knowledge.{Knowledge, none, noted, valued, number, Sound, is-point, fresh, Sized as Long}
-use Rattle.knowledge.specs.Laws.{point-law}
+use Rattle.knowledge.specs.Laws.{point-law, sound-law}
 use Rattle.valuation.specs.Sheets.{value, verdict, valuation-of, verdicts-of}
-use Rattle.monitor.specs.State.{State, Sized, sizes-fit, sized}
+use Rattle.monitor.specs.State.{State, unless, Sized, sizes-fit, sized, over, settled, slip-checks, take-message, record-checks, opening-checks, receive}
 
 pub sized-law : (p : Policy) (x : State) → (sized p x ≡ true) ↔ Sized p x
 unfolding sizes-fit
@@ -116,3 +122,25 @@ module _ (c : Policy) where
   pub lengths : (length (fresh (c .sizes) .numbers) ≡ c .sizes .components * suc (c .sizes .minutes)) × (length (fresh (c .sizes) .facts) ≡ 2 * c .sizes .minutes) × (length (valuation-of c (fresh (c .sizes))) ≡ c .count * c .sizes .minutes)
   unfolding fresh valuation-of
   lengths = (table-length (c .sizes .components * suc (c .sizes .minutes)) _, length-replicate {A = ℕ} (2 * c .sizes .minutes) 0, table-length (c .count * c .sizes .minutes) _)
+
+-- ---- a take whose first checks pass
+
+module _ (s : List ℕ) (x : State) (card : answer-of s ≡ C.Accepted) (z : Sized (policy-of s) x) (k : Sound (policy-of s .sizes) (x .known)) where
+  pub first-pass : first-failed (record-checks s (x .known) (length (x .valuation)) (length (x .verdicts))) ≡ C.Accepted
+  unfolding answer-of
+  first-pass =
+      passing-law (record-checks s (x .known) (length (x .valuation)) (length (x .verdicts))) .1
+      (passed-both (opening-checks s x) _ (passed-both (policy-checks s) _ (passing-law (policy-checks s) .0 card)
+      (pass (sized-law (policy-of s) x .1 z) none-left)) (pass (sound-law (policy-of s .sizes) (x .known) .1 k) none-left))
+
+  -- it is that of its message
+  pub plain-take : (b : List ℕ) → receive s x b ≡ take-message (policy-of s) x b
+  unfolding receive
+  plain-take b =
+      ap (λ (c : Checked). unless c x (settled (policy-of s) x (meaning-of b)))
+      (in-order (record-checks s (x .known) (length (x .valuation)) (length (x .verdicts))) (slip-checks (policy-of s) x b)
+      ∙ ap (λ (a : Checked). and-then a (first-failed (slip-checks (policy-of s) x b))) first-pass)
+
+-- the state over sound knowledge of its sizes is of its sizes too
+pub over-sized : (p : Policy) (k : Knowledge) → Long (p .sizes) k → Sized p (over p k)
+over-sized p k l = record { numbers = l .numbers; facts = l .facts; valuation = sheet-lengths p k .0; verdicts = sheet-lengths p k .1 }

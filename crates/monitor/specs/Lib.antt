@@ -1,5 +1,6 @@
 -- The calls, and what is demanded of them.
 pub mod State
+pub mod Storing
 pub mod Checked
 pub mod Lookup
 pub mod Codes

@@ -1,22 +1,27 @@
--- The state, and what an opening and a take do, as functions of the bytes and the state. The contracts and the demands speak of these.
+-- The state, and what an opening, a take and a packet do, as functions of the bytes and the state. The contracts and the demands speak of these.
 use Prim.Native.Nat.{ℕ, suc, _+_, _*_}
 use mathlib.Core.Path.{_≡_}
 use mathlib.Core.Bool.{Bool, _&&_}
-use mathlib.Core.List.{List, [], _∷_, _++_, List·Memᴰ}
+use mathlib.Core.List.{List, [], _∷_, _++_, map, List·Memᴰ}
 use lib.Dec.{eqb}
-use lib.ListN.{length, replicate}
+use lib.ListN.{length, replicate, take}
+use Rattle.refusal.specs.declared.Refusal.{Refusal}
 use Rattle.refusal.specs.declared.Refusal.the-variants.{BufferSize, CorruptKnowledge, Conflict}
+use Rattle.refusal.specs.Numbers.{packet-place}
 use Rattle.policy.specs.declared.Policy.{Policy}
 use Rattle.refusal.specs.declared.Answer.{Answer as Checked}
 use Rattle.refusal.specs.declared.Answer.the-variants as C
 use Rattle.refusal.specs.Checks.{Check, check, first-failed}
 use Rattle.policy.specs.Format.{policy-checks, policy-of}
-use Rattle.message.specs.Format.{message-checks}
+use Rattle.message.specs.Format.{message-checks, messages-of}
 use Rattle.message.specs.Fixes.{Message, meaning-of}
 use Rattle.knowledge.specs.Knowledge.{Knowledge, sound, fresh, stored, admits}
 use Rattle.valuation.specs.Sheets.{valuation-of, verdicts-of, standing}
 use Rattle.monitor.specs.declared.Answer.{Answer}
 use Rattle.monitor.specs.declared.Answer.the-variants.{Done, Received, Refused}
+use Rattle.monitor.specs.declared.PacketAnswer.{PacketAnswer}
+use Rattle.monitor.specs.declared.Stop.{Stop}
+use Rattle.monitor.specs.declared.Stop.the-variants as P
 
 -- "Four lent buffers"
 pub record State : Type 0 where
@@ -117,6 +122,48 @@ take-checks s x b = record-checks s (x .known) (length (x .valuation)) (length (
 unfoldable pub receive : List ℕ → State → List ℕ → Outcome
 receive s x b = unless (first-failed (take-checks s x b)) x (settled (policy-of s) x (meaning-of b))
 
+-- ---- packets (02, request 1)
+
+-- what a packet is answered, and the state it leaves
+pub record Packet-outcome : Type 0 where
+  pub answer : PacketAnswer
+  pub state : State
+
+abbrev pub packet-outcome : PacketAnswer → List ℕ → List ℕ → List ℕ → List ℕ → Packet-outcome
+packet-outcome a numbers facts valuation verdicts = record { answer = a; state = lent numbers facts valuation verdicts }
+
+-- "It gives the number taken, and the refusal": n are taken, and then the packet stops
+abbrev pub stopped : ℕ → Stop → State → Packet-outcome
+stopped n e x = record { answer = record { taken = n; stop = e }; state = x }
+
+-- a refusal of the message that starts at byte `at`, ".. with its place counted from the packet's start"
+abbrev pub refused-at : ℕ → Refusal → Stop
+refused-at at r = P.Refused r (packet-place at r)
+
+-- a take with this answer ends the packet, or lets it go on
+abbrev pub ends-or : Answer → (Refusal → Packet-outcome) → Packet-outcome → Packet-outcome
+ends-or Done ends next = next
+ends-or (Received n) ends next = next
+ends-or (Refused r) ends next = ends r
+
+-- "A packet call takes slips until the packet ends or one is refused, and leaves everything as the same takes one by one would": n messages are taken
+-- already, from `at` bytes. "Slips taken before the refusal remain taken"
+abbrev pub take-each : List ℕ → State → ℕ → ℕ → List (List ℕ) → Packet-outcome
+take-each s x n at [] = stopped n P.AtEnd x
+take-each s x n at (m ∷ ms) =
+    ends-or (receive s x m .answer)
+    (λ r. stopped n (refused-at at r) (receive s x m .state))
+    (take-each s (receive s x m .state) (n + 1) (at + length m) ms)
+
+-- "A call added later that is lent a record checks 1 to 6 as a take does", an empty packet too; "those checked before 7 keep their places"
+abbrev pub unless-packet : Checked → State → Packet-outcome → Packet-outcome
+unless-packet C.Accepted x done = done
+unless-packet (C.Refused r) x done = stopped 0 (refused-at 0 r) x
+
+unfoldable pub receive-packet : List ℕ → State → List ℕ → Packet-outcome
+receive-packet s x b =
+    unless-packet (first-failed (record-checks s (x .known) (length (x .valuation)) (length (x .verdicts)))) x (take-each s x 0 0 (messages-of b))
+
 -- ---- lists of calls
 
 pub data Call : Type 0 where
@@ -168,3 +215,50 @@ pub record Offered (b : List ℕ) (cs : List Call) : Type 0 where
   pub call : Call
   pub is-call : List·Memᴰ call cs
   pub offers : Offers call b
+
+-- ---- lists that hold packets
+
+pub data Entry : Type 0 where
+  -- a call of demand 3's lists
+  Single : Call → Entry
+  -- a packet, of any bytes
+  Packet : List ℕ → Entry
+
+-- the state that a take or a packet leaves
+abbrev pub entry-state : List ℕ → State → Entry → State
+entry-state s x (Single c) = step s x c .state
+entry-state s x (Packet b) = receive-packet s x b .state
+
+-- what it accepts: of a packet as many of its messages as it says were taken
+abbrev pub entry-accepted : List ℕ → State → Entry → List Message
+entry-accepted s x (Single c) = accepted-by s x c
+entry-accepted s x (Packet b) = map meaning-of (take (receive-packet s x b .answer .taken) (messages-of b))
+
+-- the rest of the takes, where the first is not refused
+abbrev pub if-taken : Answer → List Call → List Call
+if-taken Done cs = cs
+if-taken (Received n) cs = cs
+if-taken (Refused r) cs = []
+
+-- the takes that offer byte strings one by one, until one is refused
+abbrev pub offers-each : List ℕ → State → List (List ℕ) → List Call
+offers-each s x [] = []
+offers-each s x (m ∷ ms) = Receive m ∷ if-taken (receive s x m .answer) (offers-each s (receive s x m .state) ms)
+
+-- "the same takes one by one"
+abbrev pub entry-takes : List ℕ → State → Entry → List Call
+entry-takes s x (Single c) = c ∷ []
+entry-takes s x (Packet b) = offers-each s x (messages-of b)
+
+-- over a list, each entry lent the state as the last one left it
+abbrev pub run-entries : List ℕ → State → List Entry → State
+run-entries s x [] = x
+run-entries s x (e ∷ es) = run-entries s (entry-state s x e) es
+
+abbrev pub accepted-entries : List ℕ → State → List Entry → List Message
+accepted-entries s x [] = []
+accepted-entries s x (e ∷ es) = entry-accepted s x e ++ accepted-entries s (entry-state s x e) es
+
+abbrev pub takes-entries : List ℕ → State → List Entry → List Call
+takes-entries s x [] = []
+takes-entries s x (e ∷ es) = entry-takes s x e ++ takes-entries s (entry-state s x e) es

@@ -1,7 +1,7 @@
-// The calls over a lent state: open, receive and lookup. What is demanded of them stands in specs/Demands.antt.
-use message::Event;
+// The calls over a lent state: open, receive, receive_packet and lookup. What is demanded of them stands in specs/Demands.antt.
 use policy::Decoded;
 use policy::Policy;
+use policy::Sizes;
 use refusal::Refusal;
 ghost use mathlib.Core.Path.{_≡_};
 ghost use mathlib.Core.Bool.{true, cond};
@@ -10,10 +10,12 @@ ghost use lib.Dec.{eqb};
 ghost use lib.ListN.{length, replicate};
 ghost use Rattle.rows.specs.Grid.{table};
 ghost use Rattle.policy.specs.Proper.{Proper};
-ghost use Rattle.message.specs.Fixes.{Fits};
-ghost use Rattle.knowledge.specs.Knowledge.{none, Sound, admits};
-ghost use Rattle.knowledge.specs.Run.{held, sent};
-ghost use Rattle.monitor.specs.State.{lent, outcome, Sized, sizes-fit, opened, rewritten, settled, take-message, size-checks, record-checks, open-state, receive};
+ghost use Rattle.message.specs.Format.{messages-of};
+ghost use Rattle.knowledge.specs.Knowledge.{none, Sound, Sized as Long};
+ghost use Rattle.knowledge.specs.Laws.{Limits};
+ghost use Rattle.knowledge.specs.Run.{held};
+ghost use Rattle.monitor.specs.State.{lent, outcome, Sized, sizes-fit, opened, rewritten, take-message, size-checks, record-checks, open-state, receive, packet-outcome, receive-packet};
+ghost use Rattle.monitor.specs.Storing.{Ranged, stored-as, store-message, settle-message, stored-packet, store-each, take-packet};
 ghost use Rattle.monitor.specs.Checked.{Checks};
 ghost use Rattle.monitor.specs.Lookup.{verdict-of, look-at, lookup-of};
 
@@ -34,6 +36,19 @@ pub enum Verdict {
 pub enum Look {
     Shows(Verdict),
     Refused(Refusal),
+}
+
+// Where a packet's messages stop being taken: at the packet's end, or at one that is refused, as its take refuses it. The place beside the refusal
+// is the packet's; one inside it (of 7) is counted from the message.
+pub enum Stop {
+    AtEnd,
+    Refused { refusal: Refusal, place: usize },
+}
+
+// What a packet is answered: how many of its messages are taken, and why no more.
+pub struct PacketAnswer {
+    pub taken: usize,
+    pub stop: Stop,
 }
 
 // What a code of the verdict sheet says.
@@ -255,29 +270,64 @@ pub fn open(
     }
 }
 
-// Stores a message and rewrites both sheets; answers how many verdicts stand.
+// Stores a message that was read and goes with what is known, or says why it is turned away.
+fn store_message(
+    sizes: Sizes,
+    decoded: message::Decoded,
+    numbers: &mut [u16],
+    facts: &mut [u32],
+) -> refusal::Answer
+    requires { ⌜ Limits sizes
+        × Long sizes (held (now numbers) (now facts))
+        × Sound sizes (held (now numbers) (now facts))
+        × Ranged sizes decoded ⌝ }
+    ensures { λ r. ⌜ stored-as r (now (numbers .exit)) (now (facts .exit))
+        ≡ store-message sizes (held (now (numbers .entry)) (now (facts .entry))) decoded ⌝ }
+{
+    let answer = decoded.answer;
+    match answer {
+        refusal::Answer::Refused(_) => answer,
+        refusal::Answer::Accepted => {
+            let component = decoded.component;
+            let event = decoded.event;
+            if !knowledge::admits_message(sizes, numbers, facts, component, event) {
+                return refusal::Answer::Refused(Refusal::Conflict);
+            }
+            knowledge::store(sizes, numbers, facts, component, event);
+            answer
+        }
+    }
+}
+
+// Stores a message and rewrites both sheets, or refuses it; answers how many verdicts stand.
 fn settle_message(
     policy: Policy,
-    component: usize,
-    event: Event,
+    decoded: message::Decoded,
     numbers: &mut [u16],
     facts: &mut [u32],
     valuation: &mut [u8],
     verdicts: &mut [u8],
-) -> usize
+) -> Answer
     requires { ⌜ (Proper policy)
         × Sized policy (lent (now numbers) (now facts) (now valuation) (now verdicts))
-        × Fits (policy .sizes) (sent component event)
-        × (admits (policy .sizes) (held (now numbers) (now facts)) (sent component event) ≡ true) ⌝ }
-    ensures { λ r. ⌜ outcome (Answer.Received r) (now (numbers .exit)) (now (facts .exit)) (now (valuation .exit)) (now (verdicts .exit))
-        ≡ settled policy (lent (now (numbers .entry)) (now (facts .entry)) (now (valuation .entry)) (now (verdicts .entry))) (sent component event) ⌝ }
+        × Sound (policy .sizes) (held (now numbers) (now facts))
+        × Ranged (policy .sizes) decoded ⌝ }
+    ensures { λ r. ⌜ outcome r (now (numbers .exit)) (now (facts .exit)) (now (valuation .exit)) (now (verdicts .exit))
+        ≡ settle-message policy
+        (lent (now (numbers .entry)) (now (facts .entry)) (now (valuation .entry)) (now (verdicts .entry))) decoded ⌝ }
 {
     let sizes = policy.sizes;
-    knowledge::store(sizes, numbers, facts, component, event);
-    rewrite_sheets(policy, numbers, facts, valuation, verdicts)
+    let stored = store_message(sizes, decoded, numbers, facts);
+    match stored {
+        refusal::Answer::Refused(r) => Answer::Refused(r),
+        refusal::Answer::Accepted => {
+            let standing = rewrite_sheets(policy, numbers, facts, valuation, verdicts);
+            Answer::Received { standing: standing }
+        }
+    }
 }
 
-// Takes a message that its checks let pass, or refuses it.
+// Takes a message that stands alone: between the reader's 7 and its 8 it is tested that nothing follows it.
 fn take_message(
     policy: Policy,
     message: &[u8],
@@ -294,28 +344,12 @@ fn take_message(
         (lent (now (numbers .entry)) (now (facts .entry)) (now (valuation .entry)) (now (verdicts .entry))) (now (message .entry)) ⌝ }
 {
     let sizes = policy.sizes;
-    let decoded = message::decode(message, sizes);
-    let answer = decoded.answer;
-    match answer {
-        refusal::Answer::Refused(r) => Answer::Refused(r),
-        refusal::Answer::Accepted => {
-            let component = decoded.component;
-            let event = decoded.event;
-            if !knowledge::admits_message(sizes, numbers, facts, component, event) {
-                return Answer::Refused(Refusal::Conflict);
-            }
-            let standing = settle_message(
-                policy,
-                component,
-                event,
-                numbers,
-                facts,
-                valuation,
-                verdicts,
-            );
-            Answer::Received { standing: standing }
-        }
+    let first = message::first_step(message, sizes);
+    if first.left != 0 {
+        return Answer::Refused(Refusal::TruncatedMessage(message.len() - first.left));
     }
+    let decoded = first.decoded;
+    settle_message(policy, decoded, numbers, facts, valuation, verdicts)
 }
 
 // Takes a message of any bytes into the lent state under a policy (01: a take).
@@ -338,6 +372,99 @@ pub fn receive(
         refusal::Answer::Accepted => {
             let p = checked.policy;
             take_message(p, message, numbers, facts, valuation, verdicts)
+        }
+    }
+}
+
+// Stores the messages of a packet until it ends or one is refused; the sheets are not worked.
+fn store_messages(
+    sizes: Sizes,
+    packet: &[u8],
+    numbers: &mut [u16],
+    facts: &mut [u32],
+) -> PacketAnswer
+    requires { ⌜ Limits sizes
+        × Long sizes (held (now numbers) (now facts))
+        × Sound sizes (held (now numbers) (now facts)) ⌝ }
+    ensures { λ r. ⌜ stored-packet r (now (numbers .exit)) (now (facts .exit))
+        ≡ store-each sizes (held (now (numbers .entry)) (now (facts .entry))) 0 0 (messages-of (now (packet .entry))) ⌝ }
+{
+    let mut taken = 0;
+    let mut at = 0;
+    while at < packet.len() {
+        let first = message::first_step(&packet[at..], sizes);
+        let decoded = first.decoded;
+        let stored = store_message(sizes, decoded, numbers, facts);
+        if let refusal::Answer::Refused(r) = stored {
+            let place = refusal::place_in_packet(r, at);
+            return PacketAnswer {
+                taken: taken,
+                stop: Stop::Refused {
+                    refusal: r,
+                    place: place,
+                },
+            };
+        }
+        at = packet.len() - first.left;
+        taken = taken + 1;
+    }
+    PacketAnswer {
+        taken: taken,
+        stop: Stop::AtEnd,
+    }
+}
+
+// Stores the messages of a packet and works both sheets once, at the end, if at least one was taken.
+fn take_packet(
+    policy: Policy,
+    packet: &[u8],
+    numbers: &mut [u16],
+    facts: &mut [u32],
+    valuation: &mut [u8],
+    verdicts: &mut [u8],
+) -> PacketAnswer
+    requires { ⌜ (Proper policy)
+        × Sized policy (lent (now numbers) (now facts) (now valuation) (now verdicts))
+        × Sound (policy .sizes) (held (now numbers) (now facts)) ⌝ }
+    ensures { λ r. ⌜ packet-outcome r (now (numbers .exit)) (now (facts .exit)) (now (valuation .exit)) (now (verdicts .exit))
+        ≡ take-packet policy
+        (lent (now (numbers .entry)) (now (facts .entry)) (now (valuation .entry)) (now (verdicts .entry))) (now (packet .entry)) ⌝ }
+{
+    let sizes = policy.sizes;
+    let answer = store_messages(sizes, packet, numbers, facts);
+    if answer.taken == 0 {
+        return answer;
+    }
+    rewrite_sheets(policy, numbers, facts, valuation, verdicts);
+    answer
+}
+
+// Takes the messages of a packet, which stand in it end to end, until it ends or one is refused (02, request 1).
+pub fn receive_packet(
+    policy: &[u8],
+    packet: &[u8],
+    numbers: &mut [u16],
+    facts: &mut [u32],
+    valuation: &mut [u8],
+    verdicts: &mut [u8],
+) -> PacketAnswer
+    ensures { λ r. ⌜ packet-outcome r (now (numbers .exit)) (now (facts .exit)) (now (valuation .exit)) (now (verdicts .exit))
+        ≡ receive-packet (now (policy .entry))
+        (lent (now (numbers .entry)) (now (facts .entry)) (now (valuation .entry)) (now (verdicts .entry))) (now (packet .entry)) ⌝ }
+{
+    let checked = check_record(policy, numbers, facts, valuation.len(), verdicts.len());
+    let answer = checked.answer;
+    match answer {
+        refusal::Answer::Refused(r) => PacketAnswer {
+            taken: 0,
+            stop: Stop::Refused {
+                refusal: r,
+                place: refusal::place(r),
+            },
+        },
+        refusal::Answer::Accepted => {
+            let p = checked.policy;
+            take_packet(p, packet, numbers, facts, valuation, verdicts)
         }
     }
 }

@@ -5,7 +5,9 @@ use Rattle.monitor.specs.declared.Answer.{Answer}
 use Rattle.monitor.specs.declared.Answer.the-variants.{Done, Received, Refused}
 use Rattle.monitor.specs.declared.Look.{Look}
 use Rattle.monitor.specs.declared.Look.the-variants as L
-use Rattle.monitor.specs.State.{State, Outcome}
+use Rattle.monitor.specs.declared.Stop.{Stop}
+use Rattle.monitor.specs.declared.Stop.the-variants as P
+use Rattle.monitor.specs.State.{State, Outcome, Packet-outcome}
 use Rattle.monitor.specs.Lookup.{verdict-code}
 
 -- 0 where a call is not refused, and else the refusal's number
@@ -29,6 +31,25 @@ pub record Returned : Type 0 where
 -- a call's outcome as C sees it
 abbrev pub returned : Outcome → Returned
 returned o = record { number = number-of (o .answer); detail = detail-of (o .answer); state = o .state }
+
+-- the same for a packet: 0 where it was taken to its end, and else the refusal's number, with its place counted from the packet's start
+abbrev pub stop-number : Stop → ℕ
+stop-number P.AtEnd = 0
+stop-number (P.Refused r place) = refusal-number r
+
+abbrev pub stop-place : Stop → ℕ
+stop-place P.AtEnd = 0
+stop-place (P.Refused r place) = place
+
+pub record Returned-packet : Type 0 where
+  pub number : ℕ
+  -- how many messages were taken
+  pub taken : ℕ
+  pub place : ℕ
+  pub state : State
+
+abbrev pub returned-packet : Packet-outcome → Returned-packet
+returned-packet o = record { number = stop-number (o .answer .stop); taken = o .answer .taken; place = stop-place (o .answer .stop); state = o .state }
 
 -- the same for a look: the detail is the verdict's code (0 blank, 1 kept, 2 broken)
 abbrev pub look-number : Look → ℕ

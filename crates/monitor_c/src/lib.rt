@@ -1,12 +1,14 @@
 // The calls of monitor for C and Rust, on numbers and slices. Each gives a number, 0 where the call is not refused and else the refusal's, and
-// writes a detail: a refusal's place, how many verdicts stand after a take, the code of the verdict that a look shows.
+// writes a detail: a refusal's place, how many verdicts stand after a take, the code of the verdict that a look shows. A packet writes two: how
+// many messages were taken, and the refusal's place.
 use monitor::Answer;
 use monitor::Look;
+use monitor::Stop;
 use monitor::Verdict;
 ghost use mathlib.Core.Path.{_≡_};
-ghost use Rattle.monitor.specs.State.{lent, open-state, receive};
+ghost use Rattle.monitor.specs.State.{lent, open-state, receive, receive-packet};
 ghost use Rattle.monitor.specs.Lookup.{verdict-code, lookup-of};
-ghost use Rattle.monitor_c.specs.Returned.{number-of, detail-of, Returned, returned, look-number, look-detail};
+ghost use Rattle.monitor_c.specs.Returned.{number-of, detail-of, Returned, returned, stop-number, stop-place, Returned-packet, returned-packet, look-number, look-detail};
 
 fn answer_number(answer: Answer) -> u8
     ensures { λ r. ⌜ r ≡ number-of answer ⌝ }
@@ -25,6 +27,24 @@ fn answer_detail(answer: Answer) -> usize
         Answer::Done => 0,
         Answer::Received { standing } => standing,
         Answer::Refused(r) => refusal::place(r),
+    }
+}
+
+fn stop_number(stop: Stop) -> u8
+    ensures { λ r. ⌜ r ≡ stop-number stop ⌝ }
+{
+    match stop {
+        Stop::AtEnd => 0,
+        Stop::Refused { refusal, place: _ } => refusal::number(refusal),
+    }
+}
+
+fn stop_place(stop: Stop) -> usize
+    ensures { λ r. ⌜ r ≡ stop-place stop ⌝ }
+{
+    match stop {
+        Stop::AtEnd => 0,
+        Stop::Refused { refusal: _, place } => place,
     }
 }
 
@@ -93,6 +113,29 @@ pub extern "C" fn zankezurt_receive(
     let answer = monitor::receive(policy, message, numbers, facts, valuation, verdicts);
     *detail = answer_detail(answer);
     answer_number(answer)
+}
+
+// 02, request 1: a packet.
+#[no_mangle]
+pub extern "C" fn zankezurt_receive_packet(
+    policy: &[u8],
+    packet: &[u8],
+    numbers: &mut [u16],
+    facts: &mut [u32],
+    valuation: &mut [u8],
+    verdicts: &mut [u8],
+    taken: &mut usize,
+    place: &mut usize,
+) -> u8
+    ensures { λ r. ⌜ _≡_ {A = Returned-packet}
+        (record { number = r; taken = now (taken .exit); place = now (place .exit); state = lent (now (numbers .exit)) (now (facts .exit)) (now (valuation .exit)) (now (verdicts .exit)) })
+        (returned-packet (receive-packet (now (policy .entry)) (lent (now (numbers .entry)) (now (facts .entry)) (now (valuation .entry)) (now (verdicts .entry))) (now (packet .entry)))) ⌝ }
+{
+    let answer = monitor::receive_packet(policy, packet, numbers, facts, valuation, verdicts);
+    let stop = answer.stop;
+    *taken = answer.taken;
+    *place = stop_place(stop);
+    stop_number(stop)
 }
 
 // 01: a look.

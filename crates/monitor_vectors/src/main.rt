@@ -1,15 +1,24 @@
-// Every case of 01's small shift, and one of each reason to turn a call away, run through open and receive. It prints each call's answer,
-// and then the state that the call left, or that it is unchanged.
+// Every case of 01's small shift, and one of each reason to turn a call away, run through open, receive and receive_packet. It prints each
+// call's answer, and then the state that the call left, or that it is unchanged.
 mod text;
 
 use libc::STDOUT_FILENO;
 use monitor::Answer;
+use monitor::PacketAnswer;
+use monitor::Stop;
 use refusal::Refusal;
 ghost use Prim.Native.Nat.{_≤_, _<_};
 ghost use lib.ListN.{length};
 
 // K: proposition 0 at some time in the last 2 minutes.
 const K: [u8; 13] = *b"\x01\x01\x04\x00\x03\x00\x01\x01\x35\x04\x01\x02\x00";
+
+// A, packet A B and an empty packet.
+const EACH: [u8; 29] =
+    *b"\x08\x0c\x01\x00\x01\x00\x00\x00\x00\x92\x0c\x01\x00\x01\x00\x00\x00\x00\x0e\x02\x00\x02\x00\x01\x00\x00\x00\x01\x80";
+
+// What a packet's length byte has more than a message's.
+const PACKET: u8 = 128;
 
 // How many elements of each array are lent.
 struct Parts {
@@ -37,11 +46,11 @@ fn print_message(message: &[u8]) {
     }
 }
 
-fn print_refusal(r: Refusal) {
+fn print_refusal(r: Refusal, place: usize) {
     print(b"refused ");
     io::print_decimal(STDOUT_FILENO, refusal::number(r) as u64);
     print(b" at ");
-    io::print_decimal(STDOUT_FILENO, refusal::place(r) as u64);
+    io::print_decimal(STDOUT_FILENO, place as u64);
     print(b"\n");
 }
 
@@ -53,7 +62,21 @@ fn print_answer(answer: Answer) {
             io::print_decimal(STDOUT_FILENO, standing as u64);
             print(b"\n");
         }
-        Answer::Refused(r) => print_refusal(r),
+        Answer::Refused(r) => print_refusal(r, refusal::place(r)),
+    }
+}
+
+// How many messages of a packet were taken, and why no more.
+fn print_packet_answer(answer: PacketAnswer) {
+    print(b"taken ");
+    io::print_decimal(STDOUT_FILENO, answer.taken as u64);
+    let stop = answer.stop;
+    match stop {
+        Stop::AtEnd => print(b" at end\n"),
+        Stop::Refused { refusal, place } => {
+            print(b" ");
+            print_refusal(refusal, place);
+        }
     }
 }
 
@@ -100,24 +123,65 @@ fn show_receive(
     print_state(&before[0..n], numbers, facts, valuation, verdicts);
 }
 
-// Where the message ends whose length byte stands at a place.
+// Receives a packet, and prints it, the answer and the state.
+fn show_packet(
+    policy: &[u8],
+    packet: &[u8],
+    numbers: &mut [u16],
+    facts: &mut [u32],
+    valuation: &mut [u8],
+    verdicts: &mut [u8],
+) {
+    let mut before = [0u8; 512];
+    let n = text::describe(&mut before, numbers, facts, valuation, verdicts);
+    print_message(packet);
+    print(b": ");
+    print_packet_answer(monitor::receive_packet(
+        policy,
+        packet,
+        numbers,
+        facts,
+        valuation,
+        verdicts,
+    ));
+    print_state(&before[0..n], numbers, facts, valuation, verdicts);
+}
+
+// Receives what stands after a length byte: a packet where its bit 7 stands, and else a message.
+fn show_offer(
+    length: u8,
+    policy: &[u8],
+    offer: &[u8],
+    numbers: &mut [u16],
+    facts: &mut [u32],
+    valuation: &mut [u8],
+    verdicts: &mut [u8],
+) {
+    if length < PACKET {
+        show_receive(policy, offer, numbers, facts, valuation, verdicts);
+        return;
+    }
+    show_packet(policy, offer, numbers, facts, valuation, verdicts);
+}
+
+// Where the message or packet ends whose length byte stands at a place.
 fn message_end(messages: &[u8], at: usize) -> usize
     requires { ⌜ at < length (now messages) ⌝ }
     ensures { λ r. ⌜ (at < r) × (r ≤ length (now (messages .entry))) ⌝ }
 {
     let left = messages.len() - at - 1;
-    let bytes = wide(messages[at]);
+    let bytes = length_of(messages[at]);
     if left < bytes {
         return messages.len();
     }
     at + 1 + bytes
 }
 
-fn wide(byte: u8) -> usize {
-    byte as usize
+fn length_of(byte: u8) -> usize {
+    (byte % PACKET) as usize
 }
 
-// Receives the messages, each after one length byte.
+// Receives the messages and packets, each after one length byte.
 fn show_messages(
     policy: &[u8],
     messages: &[u8],
@@ -130,7 +194,8 @@ fn show_messages(
     while at < messages.len() {
         let from = at + 1;
         let to = message_end(messages, at);
-        show_receive(
+        show_offer(
+            messages[at],
             policy,
             &messages[from..to],
             numbers,
@@ -196,21 +261,16 @@ fn small(title: &[u8], messages: &[u8]) {
     run(title, parts_of(3), &K, messages);
 }
 
-// A case of K over other parts, with the message A.
+// A case of K over other parts, with A, packet A B and an empty packet.
 fn sized(title: &[u8], parts: Parts)
     requires { ⌜ (parts .numbers ≤ 8) × (parts .facts ≤ 16) × (parts .valuation ≤ 16) × (parts .verdicts ≤ 8) ⌝ }
 {
-    run(title, parts, &K, b"\x08\x0c\x01\x00\x01\x00\x00\x00\x00");
+    run(title, parts, &K, &EACH);
 }
 
-// A policy that is refused, with the message A.
+// A policy that is refused, with the same.
 fn refused(title: &[u8], policy: &[u8]) {
-    run(
-        title,
-        parts_of(3),
-        policy,
-        b"\x08\x0c\x01\x00\x01\x00\x00\x00\x00",
-    );
+    run(title, parts_of(3), policy, &EACH);
 }
 
 // Messages in one order and in another.
@@ -274,6 +334,111 @@ fn past_the_last_minute() {
     small(
         b"A, B, an observation at minute 4\n",
         b"\x08\x0c\x01\x00\x01\x00\x00\x00\x00\x0a\x0e\x02\x00\x02\x00\x01\x00\x00\x00\x01\x05\x06\x04\x00\x03\x00",
+    );
+}
+
+// Packets whose messages are all taken.
+fn packets() {
+    small(
+        b"packet A B D\n",
+        b"\x97\x0c\x01\x00\x01\x00\x00\x00\x00\x0e\x02\x00\x02\x00\x01\x00\x00\x00\x01\x06\x03\x00\x03\x00",
+    );
+    small(
+        b"packet B A\n",
+        b"\x92\x0e\x02\x00\x02\x00\x01\x00\x00\x00\x01\x0c\x01\x00\x01\x00\x00\x00\x00",
+    );
+    small(
+        b"A, and then packet B D\n",
+        b"\x08\x0c\x01\x00\x01\x00\x00\x00\x00\x8f\x0e\x02\x00\x02\x00\x01\x00\x00\x00\x01\x06\x03\x00\x03\x00",
+    );
+    small(
+        b"packet A, and then packet A A\n",
+        b"\x88\x0c\x01\x00\x01\x00\x00\x00\x00\x90\x0c\x01\x00\x01\x00\x00\x00\x00\x0c\x01\x00\x01\x00\x00\x00\x00",
+    );
+}
+
+// Packets that change nothing.
+fn idle_packets() {
+    small(b"an empty packet\n", b"\x80");
+    small(
+        b"A, and then an empty packet\n",
+        b"\x08\x0c\x01\x00\x01\x00\x00\x00\x00\x80",
+    );
+    small(
+        b"packet of two alive messages that change nothing\n",
+        b"\x82\x10\x10",
+    );
+}
+
+// Packets that end inside a message: 7 at the packet's length.
+fn cut_packets() {
+    small(
+        b"packet A, and B cut by a byte\n",
+        b"\x91\x0c\x01\x00\x01\x00\x00\x00\x00\x0e\x02\x00\x02\x00\x01\x00\x00\x00",
+    );
+    small(
+        b"packet A, and the first byte of B\n",
+        b"\x89\x0c\x01\x00\x01\x00\x00\x00\x00\x0e",
+    );
+    small(
+        b"packet of A cut in its mark map\n",
+        b"\x85\x0c\x01\x00\x01\x00",
+    );
+    small(
+        b"packet of an alive message that changes nothing, and D cut by a byte\n",
+        b"\x85\x10\x06\x03\x00\x03",
+    );
+}
+
+// Packets with a bad message: 8 at its first byte, and what follows it is not taken.
+fn bad_packets() {
+    small(
+        b"packet of no count, and A\n",
+        b"\x89\x00\x0c\x01\x00\x01\x00\x00\x00\x00",
+    );
+    small(
+        b"packet A, no count, and B\n",
+        b"\x93\x0c\x01\x00\x01\x00\x00\x00\x00\x00\x0e\x02\x00\x02\x00\x01\x00\x00\x00\x01",
+    );
+    small(
+        b"packet A B, and no count\n",
+        b"\x93\x0c\x01\x00\x01\x00\x00\x00\x00\x0e\x02\x00\x02\x00\x01\x00\x00\x00\x01\x00",
+    );
+    small(
+        b"packet A, no count, and B cut by a byte\n",
+        b"\x92\x0c\x01\x00\x01\x00\x00\x00\x00\x00\x0e\x02\x00\x02\x00\x01\x00\x00\x00",
+    );
+}
+
+// Packets with a message that no trace could have sent: 9 at its first byte. The next packet goes on from what was taken.
+fn conflicting_packets() {
+    small(
+        b"packet of more observations than minutes, and A\n",
+        b"\x8b\x04\x02\x00\x0c\x01\x00\x01\x00\x00\x00\x00",
+    );
+    small(
+        b"packet A, none by minute 0, and B; and then packet B D\n",
+        b"\x95\x0c\x01\x00\x01\x00\x00\x00\x00\x12\x01\x00\x0e\x02\x00\x02\x00\x01\x00\x00\x00\x01\x8f\x0e\x02\x00\x02\x00\x01\x00\x00\x00\x01\x06\x03\x00\x03\x00",
+    );
+    small(
+        b"packet A B, A with another value, and D\n",
+        b"\x9f\x0c\x01\x00\x01\x00\x00\x00\x00\x0e\x02\x00\x02\x00\x01\x00\x00\x00\x01\x0c\x01\x00\x01\x00\x00\x00\x01\x06\x03\x00\x03\x00",
+    );
+}
+
+// Packets that go past the last minute.
+fn packets_past_the_last_minute() {
+    small(
+        b"packet A B, alive at minute 4\n",
+        b"\x97\x0c\x01\x00\x01\x00\x00\x00\x00\x0e\x02\x00\x02\x00\x01\x00\x00\x00\x01\x16\x04\x00\x02\x00",
+    );
+    small(
+        b"packet A B, alive at minute 5, and D\n",
+        b"\x9c\x0c\x01\x00\x01\x00\x00\x00\x00\x0e\x02\x00\x02\x00\x01\x00\x00\x00\x01\x16\x05\x00\x02\x00\x06\x03\x00\x03\x00",
+    );
+    small(
+        b"packet A B, an observation at minute 4, and D\n",
+        b"\x9c\x0c\x01\x00\x01\x00\x00\x00\x00\x0e\x02\x00\x02\x00\x01\x00\x00\x00\x01\x06\x04\x00\x03\x00\x06\x03\x00\x03\x00",
     );
 }
 
@@ -351,8 +516,9 @@ fn wrong_sizes() {
     );
 }
 
-// K opened, and then one sequence number and one fact overwritten by other values: 6 where no trace agrees with them.
-fn run_overwritten(title: &[u8], slot: usize, number: u16, cell: usize, fact: u32)
+// K opened, and then one sequence number and one fact overwritten by other values, and the sheets too: 6 where no trace agrees
+// with the record.
+fn run_overwritten(title: &[u8], slot: usize, number: u16, cell: usize, fact: u32, messages: &[u8])
     requires { ⌜ (slot < 5) × (cell < 8) ⌝ }
 {
     let mut numbers = [9u16; 5];
@@ -363,11 +529,11 @@ fn run_overwritten(title: &[u8], slot: usize, number: u16, cell: usize, fact: u3
     show_open(&K, &mut numbers, &mut facts, &mut valuation, &mut verdicts);
     numbers[slot] = number;
     facts[cell] = fact;
-    valuation[11] = 7;
-    verdicts[3] = 2;
-    show_receive(
+    valuation = [7u8; 12];
+    verdicts = [2u8; 4];
+    show_messages(
         &K,
-        b"\x10",
+        messages,
         &mut numbers,
         &mut facts,
         &mut valuation,
@@ -375,13 +541,46 @@ fn run_overwritten(title: &[u8], slot: usize, number: u16, cell: usize, fact: u3
     );
 }
 
+// K with such knowledge, and an alive message that changes nothing, a packet of two and an empty packet.
+fn overwritten(title: &[u8], slot: usize, number: u16, cell: usize, fact: u32)
+    requires { ⌜ (slot < 5) × (cell < 8) ⌝ }
+{
+    run_overwritten(title, slot, number, cell, fact, b"\x01\x10\x82\x10\x10\x80");
+}
+
 // Corrupt knowledge: 6; and sheets that hold anything, which are written anew.
 fn overwritten_states() {
-    run_overwritten(b"the first number is not 0\n", 0, 1, 0, 0);
-    run_overwritten(b"three observations in two minutes\n", 2, 3, 0, 0);
-    run_overwritten(b"a value of a proposition that is not known\n", 0, 0, 1, 1);
-    run_overwritten(b"a proposition that the policy has not\n", 0, 0, 0, 2);
-    run_overwritten(b"sheets that hold anything\n", 2, 1, 2, 1);
+    overwritten(b"the first number is not 0\n", 0, 1, 0, 0);
+    overwritten(b"three observations in two minutes\n", 2, 3, 0, 0);
+    overwritten(b"a value of a proposition that is not known\n", 0, 0, 1, 1);
+    overwritten(b"a proposition that the policy has not\n", 0, 0, 0, 2);
+    overwritten(b"sheets that hold anything\n", 2, 1, 2, 1);
+}
+
+// K opened, and then only the sheets overwritten.
+fn other_sheets(title: &[u8], messages: &[u8]) {
+    run_overwritten(title, 0, 0, 0, 0, messages);
+}
+
+// Packets over sheets that hold anything: they are written anew if a message is taken, and else are left.
+fn packets_over_other_sheets() {
+    other_sheets(b"other sheets: an empty packet\n", b"\x80");
+    other_sheets(
+        b"other sheets: packet of A cut by a byte\n",
+        b"\x87\x0c\x01\x00\x01\x00\x00\x00",
+    );
+    other_sheets(
+        b"other sheets: packet of no count, and A\n",
+        b"\x89\x00\x0c\x01\x00\x01\x00\x00\x00\x00",
+    );
+    other_sheets(
+        b"other sheets: packet of more observations than minutes, and A\n",
+        b"\x8b\x04\x02\x00\x0c\x01\x00\x01\x00\x00\x00\x00",
+    );
+    other_sheets(
+        b"other sheets: packet of an alive message that changes nothing, and no count\n",
+        b"\x82\x10\x00",
+    );
 }
 
 // Policies that are cut, or followed by more: 1.
@@ -440,10 +639,17 @@ fn main() {
     bad_messages();
     conflicts();
     past_the_last_minute();
+    packets();
+    idle_packets();
+    cut_packets();
+    bad_packets();
+    conflicting_packets();
+    packets_past_the_last_minute();
     no_time_point();
     next_minute();
     wrong_sizes();
     overwritten_states();
+    packets_over_other_sheets();
     cut_policies();
     bad_headings();
     bad_lines();

@@ -3,14 +3,16 @@
 use mathlib.Core.Path.{_≡_, sym, ap, subst, _∙_}
 use mathlib.Core.List.{List}
 use Prim.Native.Nat.{ℕ}
+use lib.ListN.{take}
 use denote.Ref.{now}
 use borrow.Author.Tests.{not-false}
 use Rattle.policy.specs.declared.Sizes.{Sizes}
 use Rattle.refusal.specs.declared.Answer.the-variants.{Accepted}
 use Rattle.message.specs.declared.Decoded.{Decoded}
-use Rattle.message.specs.Format.{decode-of}
+use Rattle.message.specs.Format.{first-of, used-of}
 use Rattle.message.specs.Fixes.{Fits, Well-formed}
 use Rattle.message.specs.Laws.{fits, decoded, decoded-answer}
+use Rattle.message.specs.First.{alone}
 use Rattle.knowledge.specs.Laws.{Limits, sound-law}
 use Rattle.knowledge.specs.Run.{held, sent}
 use Rattle.knowledge.specs.Runs.{runs-of}
@@ -18,10 +20,12 @@ use borrow.Author.Needs.{needs}
 use Rattle.knowledge_vectors.proofs.show_case.Statement.{statement}
 use Rattle.knowledge_vectors.proofs.show_case.Tie as tie
 
-accepted-fits : (z : Sizes) → Limits z → (s : List ℕ) (d : Decoded) → d ≡ decode-of z s → d .answer ≡ Accepted → Fits z (sent (d .component) (d .event))
+accepted-fits : (z : Sizes) → Limits z → (s : List ℕ) (d : Decoded) → d ≡ first-of z s → d .answer ≡ Accepted → Fits z (sent (d .component) (d .event))
 accepted-fits z l s d e a =
-    let w : Well-formed z s = sym (decoded-answer z s) ∙ ap (λ (x : Decoded). x .answer) (sym e) ∙ a in
-    subst (λ (x : Decoded). Fits z (sent (x .component) (x .event))) (sym (e ∙ decoded z s w)) (fits z (l .propositions-most) s w)
+    let m : List ℕ = take (used-of s) s in
+    let f = e ∙ alone z s in
+    let w : Well-formed z m = sym (decoded-answer z m) ∙ ap (λ (x : Decoded). x .answer) (sym f) ∙ a in
+    subst (λ (x : Decoded). Fits z (sent (x .component) (x .event))) (sym (f ∙ decoded z m w)) (fits z (l .propositions-most) m w)
 
 is-sound-requires : tie.Need-is-sound-requires
 is-sound-requires c κs = search needs

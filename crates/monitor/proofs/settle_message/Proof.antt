@@ -1,19 +1,25 @@
--- What is stored is sound, and the sheets over it are those of the settled state.
+-- Where the message is not stored nothing is written; else what is left is sound, and the sheets over it are those of the settled state.
 -- Assumes nothing.
-use Rattle.knowledge.specs.Run.{sent}
-use Rattle.monitor.proofs.Settling.{next-needs, stored-settled}
+use Rattle.monitor.specs.State.{lent}
+use Rattle.monitor.proofs.Storing.{settle-refused, settle-taken, settle-needs}
 use borrow.Author.Needs.{needs}
 use Rattle.monitor.proofs.settle_message.Statement.{statement}
 use Rattle.monitor.proofs.settle_message.Tie as tie
 
-store-requires : tie.Need-store-requires
-store-requires c κs = search needs
+store-message-requires : tie.Need-store-message-requires
+store-message-requires c κs = search needs
+
+enum-known-stored : tie.Need-enum-known-stored
+enum-known-stored c = search needs
+
+enum-told : tie.Need-enum-told
+enum-told c = search needs
 
 rewrite-sheets-requires : tie.Need-rewrite-sheets-requires
 rewrite-sheets-requires c κs =
-    let s = c .before .before .before .before .before .before .before .before .before .before .before .before .before .before .before .before in
+    let s = c .before .before .before .before .before .before .before .before .before .before .before .before .before .before .before .before .before .before in
     let a = s .args in
-    let n = next-needs (a .policy) (a .numbers .now) (a .facts .now) (a .valuation .now) (a .verdicts .now) (s .pre .1) (sent (a .component) (a .event)) (s .pre .2) (s .pre .3) _ _ (c .before .before .before .before .before .before .before .before .store .ensures .0) (c .before .before .before .before .before .before .before .before .store .ensures .1) in
+    let n = settle-needs (a .policy) (lent (a .numbers .now) (a .facts .now) (a .valuation .now) (a .verdicts .now)) (a .decoded) _ _ _ (c .before .before .before .before .before .before .before .before .before .before .store-message .ensures) (s .pre .1) (s .pre .2) (s .pre .3) in
     (s .pre .0, n .0, n .1)
 
 same-length : tie.Need-same-length
@@ -22,26 +28,41 @@ same-length c = search needs
 same-length-2 : tie.Need-same-length-2
 same-length-2 c = search needs
 
+returns : tie.Need-returns
+returns c =
+    let a = c .before .before .before .before .before .before .before .before .before .before .before .before .before .before .before .args in
+    settle-refused (a .policy) (lent (a .numbers .now) (a .facts .now) (a .valuation .now) (a .verdicts .now)) (a .decoded) _ _ _ (c .before .before .before .before .before .before .before .store-message .ensures) _ (c .before .stored .given .1)
+
 same-length-3 : tie.Need-same-length-3
 same-length-3 c = search needs
 
 same-length-4 : tie.Need-same-length-4
 same-length-4 c = search needs
 
-returns : tie.Need-returns
-returns c =
-    let s = c .before .before .before .before .before .before .before .before .before .before .before .before .before .before .before .before .before .before .before .before .before in
-    let a = s .args in
-    stored-settled (a .policy) (a .numbers .now) (a .facts .now) (a .valuation .now) (a .verdicts .now) (s .pre .1) (sent (a .component) (a .event)) (s .pre .2) (s .pre .3) _ _ (c .before .before .before .before .before .before .before .before .before .before .before .before .before .store .ensures .0) (c .before .before .before .before .before .before .before .before .before .before .before .before .before .store .ensures .1) _ _ _ (c .before .before .before .before .rewrite-sheets .ensures)
+same-length-5 : tie.Need-same-length-5
+same-length-5 c = search needs
+
+same-length-6 : tie.Need-same-length-6
+same-length-6 c = search needs
+
+returns-2 : tie.Need-returns-2
+returns-2 c =
+    let a = c .before .before .before .before .before .before .before .before .before .before .before .before .before .before .before .before .before .before .before .before .before .before .before .args in
+    settle-taken (a .policy) (lent (a .numbers .now) (a .facts .now) (a .valuation .now) (a .verdicts .now)) (a .decoded) _ _ _ (c .before .before .before .before .before .before .before .before .before .before .before .before .before .before .before .store-message .ensures) _ (c .before .before .before .before .before .before .before .before .before .enum-told .given .1) (c .before .before .before .before .rewrite-sheets .ensures)
 
 pub settle-message-spec : {M : Type 1} → statement M
 settle-message-spec =
     tie.close
     (tie.spec
-    store-requires
+    store-message-requires
+    enum-known-stored
+    enum-told
     rewrite-sheets-requires
     same-length
     same-length-2
+    returns
     same-length-3
     same-length-4
-    returns)
+    same-length-5
+    same-length-6
+    returns-2)

@@ -1,4 +1,4 @@
--- `show_messages` is safe and ends: each message ends after it begins and within the bytes, and the buffers keep their lengths. The measure
+-- `show_messages` is safe and ends: each message or packet ends after it begins and within the bytes, and the buffers keep their lengths. The measure
 -- is the bytes that are left. Assumes nothing.
 use Prim.Native.Nat.{_-_, _≤_}
 use mathlib.Core.Path.{_≡_}
@@ -24,17 +24,20 @@ add-from c = search needs
 message-end-requires : tie.Need-message-end-requires Inv-loop μ-loop
 message-end-requires c κs = search needs
 
-sub-show-receive : tie.Need-sub-show-receive Inv-loop μ-loop
-sub-show-receive c = search needs
+shared-slice-read-show-offer : tie.Need-shared-slice-read-show-offer Inv-loop μ-loop
+shared-slice-read-show-offer c = search needs
 
-part-show-receive-start : tie.Need-part-show-receive-start Inv-loop μ-loop
-part-show-receive-start c = search needs
+sub-show-offer : tie.Need-sub-show-offer Inv-loop μ-loop
+sub-show-offer c = search needs
 
-part-show-receive-end : tie.Need-part-show-receive-end Inv-loop μ-loop
-part-show-receive-end c = search needs
+part-show-offer-start : tie.Need-part-show-offer-start Inv-loop μ-loop
+part-show-offer-start c = search needs
 
-show-receive-requires : tie.Need-show-receive-requires Inv-loop μ-loop
-show-receive-requires c κs = search needs
+part-show-offer-end : tie.Need-part-show-offer-end Inv-loop μ-loop
+part-show-offer-end c = search needs
+
+show-offer-requires : tie.Need-show-offer-requires Inv-loop μ-loop
+show-offer-requires c κs = search needs
 
 loop-less : tie.Need-loop-less Inv-loop μ-loop
 loop-less c = search needs
@@ -66,10 +69,11 @@ show-messages-spec =
     loop-holds
     add-from
     message-end-requires
-    sub-show-receive
-    part-show-receive-start
-    part-show-receive-end
-    show-receive-requires
+    shared-slice-read-show-offer
+    sub-show-offer
+    part-show-offer-start
+    part-show-offer-end
+    show-offer-requires
     loop-less
     loop-again
     same-length

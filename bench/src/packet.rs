@@ -1,0 +1,35 @@
+//! Times of a packet and of the takes of its messages, under the largest policy and with a full record.
+
+use crate::workload::{known_messages, Workload, LARGEST};
+use oracle::Buffers;
+use std::time::Instant;
+
+/// Seconds of a packet of so many messages, and of taking them one by one, in turns and so many times over.
+pub fn in_turns(count: usize, samples: usize) -> [Vec<f64>; 2] {
+    let mut workload = Workload::new(&LARGEST);
+    let messages = known_messages(&workload.policy, &workload.buffers, count);
+    let packet = messages.concat();
+    let mut times = [Vec::new(), Vec::new()];
+    for _ in 0..samples {
+        times[0].push(seconds(|| assert_eq!(take_packet(&mut workload, &packet), count)));
+        times[1].push(seconds(|| messages.iter().for_each(|message| take(&mut workload, message))));
+    }
+    times
+}
+
+fn seconds(calls: impl FnOnce()) -> f64 {
+    let start = Instant::now();
+    calls();
+    start.elapsed().as_secs_f64()
+}
+
+/// How many messages of the packet are taken.
+fn take_packet(workload: &mut Workload, packet: &[u8]) -> usize {
+    let Workload { encoded, buffers: Buffers { numbers, facts, valuation, verdicts }, .. } = workload;
+    zankezurt::receive_packet(encoded, packet, numbers, facts, valuation, verdicts).taken
+}
+
+fn take(workload: &mut Workload, message: &[u8]) {
+    let Workload { encoded, buffers: Buffers { numbers, facts, valuation, verdicts }, .. } = workload;
+    zankezurt::receive(encoded, message, numbers, facts, valuation, verdicts).expect("a take");
+}
