@@ -9,7 +9,7 @@ use std::hint::black_box;
 pub enum Contender {
     /// The proved library, through its archive.
     Monitor,
-    /// (a) The same algorithm in safe Rust.
+    /// (a) The same algorithm in safe Rust; gaps are found in one pass over a run, and no places read are counted.
     Plain,
     /// (b) The direct reading: the oracle's, by the definition's sums.
     Sums,

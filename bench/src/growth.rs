@@ -2,7 +2,7 @@
 
 use crate::contender::Contender;
 use crate::timing::{in_turns, Spread};
-use crate::workload::{Shape, Workload};
+use crate::workload::{Record, Shape, Workload};
 
 /// A size, and the least time measured of a take at that size, in seconds.
 pub struct Point {
@@ -10,9 +10,9 @@ pub struct Point {
     pub time: f64,
 }
 
-/// The least time of the monitor's take for each shape, measured in turns; sizes are the numbers shown.
-pub fn points(shapes: &[(usize, Shape)], samples: usize) -> Vec<Point> {
-    let mut workloads: Vec<Workload> = shapes.iter().map(|(_, shape)| Workload::new(shape)).collect();
+/// The least time of the monitor's take for each shape and a record, measured in turns; sizes are the numbers shown.
+pub fn points(shapes: &[(usize, Shape)], record: Record, samples: usize) -> Vec<Point> {
+    let mut workloads: Vec<Workload> = shapes.iter().map(|(_, shape)| Workload::new(shape, record)).collect();
     let mut times = vec![f64::INFINITY; shapes.len()];
     for _ in 0..samples {
         for (workload, least) in workloads.iter_mut().zip(&mut times) {

@@ -1,5 +1,6 @@
 //! Measures a take of the monitor beside three others: the same algorithm in safe Rust, the direct reading of the definition,
-//! and the floor, which only writes each cell of both sheets once; and a packet beside the takes of its messages.
+//! and the floor, which only writes each cell of both sheets once; and a packet beside the takes of its messages. The record is full, and
+//! for a take also empty and known in bunches.
 
 pub mod contender;
 pub mod growth;

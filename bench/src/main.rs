@@ -1,12 +1,12 @@
 //! Prints what a take and a packet cost: `bench`. `bench packet COUNT` prints a packet of that many messages alone, and `bench take NAME
-//! COUNT` only makes the takes.
+//! COUNT` only makes the takes, with a full record or with that of a third word: `full`, `empty` or `bunched`.
 
 use bench::contender::{Contender, ALL};
 use bench::growth::{added, points, slope};
 use bench::instructions;
 use bench::packet;
 use bench::timing::{in_turns, ratios, Spread};
-use bench::workload::{Shape, Workload, LARGEST};
+use bench::workload::{Record, Shape, Workload, LARGEST};
 use std::env::args;
 
 /// How many times over each is measured, beside the others and in the growth.
@@ -14,44 +14,57 @@ const SAMPLES: usize = 201;
 const GROWTH_SAMPLES: usize = 1_001;
 /// How many messages the packet has.
 const PACKET: usize = 64;
+/// The minutes of a trace with which the growth is measured.
+const MINUTES: [usize; 5] = [64, 128, 256, 512, 1024];
 const MICRO: f64 = 1e6;
+/// Those whose takes are quick: all but the direct readings.
+const QUICK: [Contender; 3] = [Contender::Monitor, Contender::Plain, Contender::Floor];
 
 fn main() {
     let words: Vec<String> = args().skip(1).collect();
     match words.iter().map(String::as_str).collect::<Vec<_>>()[..] {
         [] => report(),
-        ["take", name, count] => takes(name, count.parse().expect("a count")),
+        ["take", name, count] => takes(name, count.parse().expect("a count"), Record::Full.name()),
+        ["take", name, count, record] => takes(name, count.parse().expect("a count"), record),
         ["packet", count] => packets(count.parse().expect("a count")),
-        _ => panic!("usage: bench [take NAME COUNT | packet COUNT]"),
+        _ => panic!("usage: bench [take NAME COUNT [RECORD] | packet COUNT]"),
     }
 }
 
-fn takes(name: &str, count: usize) {
+fn takes(name: &str, count: usize, record: &str) {
     let contender = ALL.into_iter().find(|contender| contender.name() == name).expect("a contender's name");
-    let mut workload = Workload::new(&LARGEST);
+    let record = Record::ALL.into_iter().find(|other| other.name() == record).expect("a record's name");
+    let mut workload = Workload::new(&LARGEST, record);
     for _ in 0..count {
         contender.take(&mut workload);
     }
 }
 
 fn report() {
-    let Shape { propositions, components, minutes, subformulas, .. } = LARGEST;
-    println!("A take: {propositions} propositions, {components} components, {minutes} minutes, {subformulas} subformulas, full record\n");
-    compare();
+    compare(Record::Full, &ALL);
     packets(PACKET);
-    count();
-    grow("minutes", &[64, 128, 256, 512, 1024], |minutes| Shape { minutes, ..LARGEST });
-    grow("subformulas", &[1, 2, 4, 8, 16, 32, 64], |subformulas| {
+    count(Record::Full);
+    for record in [Record::Empty, Record::Bunched] {
+        compare(record, &QUICK);
+        count(record);
+    }
+    grow("minutes", &MINUTES, Record::Full, |minutes| Shape { minutes, ..LARGEST });
+    // with one line the record's check and the time points are most of a take, and a search for each minute would show
+    grow("minutes", &MINUTES, Record::Empty, |minutes| Shape { minutes, subformulas: 1, rules: 1, ..LARGEST });
+    grow("subformulas", &[1, 2, 4, 8, 16, 32, 64], Record::Full, |subformulas| {
         // one rule, and one proposition: each further line is a since or an until
         Shape { components: 1, subformulas, rules: 1, spacing: 64, ..LARGEST }
     });
 }
 
-/// The monitor beside the others.
-fn compare() {
-    let times = in_turns(&ALL, &mut Workload::new(&LARGEST), SAMPLES);
+/// The monitor beside others, with a record.
+fn compare(record: Record, contenders: &[Contender]) {
+    let Shape { propositions, components, minutes, subformulas, .. } = LARGEST;
+    let name = record.name();
+    println!("A take: {propositions} propositions, {components} components, {minutes} minutes, {subformulas} subformulas, {name} record\n");
+    let times = in_turns(contenders, &mut Workload::new(&LARGEST, record), SAMPLES);
     heading("monitor");
-    for (contender, of_it) in ALL.into_iter().zip(&times) {
+    for (contender, of_it) in contenders.iter().zip(&times) {
         row(contender.describe(), of_it, &times[0]);
     }
     println!();
@@ -85,11 +98,11 @@ fn three_digits(number: f64) -> String {
     format!("{number:.places$}")
 }
 
-/// Instructions of one take.
-fn count() {
+/// Instructions of one take with a record.
+fn count(record: Record) {
     let cells = LARGEST.minutes * LARGEST.subformulas;
-    for contender in [Contender::Monitor, Contender::Plain, Contender::Floor] {
-        match instructions::of_a_take(contender) {
+    for contender in QUICK {
+        match instructions::of_a_take(contender, record) {
             Ok(count) => {
                 println!(
                     "{:<50} {count:>12} instructions, {:.1} a cell of the work sheet",
@@ -104,10 +117,14 @@ fn count() {
 }
 
 /// Growth with one size, the others as they are.
-fn grow(name: &str, sizes: &[usize], shape: impl Fn(usize) -> Shape) {
+fn grow(name: &str, sizes: &[usize], record: Record, shape: impl Fn(usize) -> Shape) {
     let shapes: Vec<(usize, Shape)> = sizes.iter().map(|&size| (size, shape(size))).collect();
-    let measured = points(&shapes, GROWTH_SAMPLES);
-    println!("Growth with {name}: {} components", shapes[0].1.components);
+    let measured = points(&shapes, record, GROWTH_SAMPLES);
+    let Shape { components, subformulas, .. } = shapes[shapes.len() - 1].1;
+    println!(
+        "Growth with {name}: {components} components, at most {subformulas} subformulas, {} record",
+        record.name()
+    );
     for point in &measured {
         println!("{:>12} {:>12.2} µs", point.size, point.time * MICRO);
     }

@@ -1,12 +1,12 @@
 //! Times of a packet and of the takes of its messages, under the largest policy and with a full record.
 
-use crate::workload::{known_messages, Workload, LARGEST};
+use crate::workload::{known_messages, Record, Workload, LARGEST};
 use oracle::Buffers;
 use std::time::Instant;
 
 /// Seconds of a packet of so many messages, and of taking them one by one, in turns and so many times over.
 pub fn in_turns(count: usize, samples: usize) -> [Vec<f64>; 2] {
-    let mut workload = Workload::new(&LARGEST);
+    let mut workload = Workload::new(&LARGEST, Record::Full);
     let messages = known_messages(&workload.policy, &workload.buffers, count);
     let packet = messages.concat();
     let mut times = [Vec::new(), Vec::new()];

@@ -1,6 +1,7 @@
-//! What is measured: policies of chosen sizes, and records that know everything of a random trace.
+//! What is measured: policies of chosen sizes, and records that know everything, nothing or bunches of a random trace.
 
 use oracle::generate::{encode_message, encode_policy, Random};
+use oracle::knowledge::NOT_KNOWN;
 use oracle::message::{Event, Message};
 use oracle::policy::{Formula, Policy, Subformula, Temporal, HIGHEST_BOUND};
 use oracle::Buffers;
@@ -12,6 +13,42 @@ pub struct Workload {
     pub message: Vec<u8>,
     pub buffers: Buffers,
 }
+
+/// How much of the random trace the record knows.
+#[derive(Clone, Copy, Debug, PartialEq, Eq)]
+pub enum Record {
+    /// Every sequence number and every fact.
+    Full,
+    /// Nothing: a fresh record.
+    Empty,
+    /// Eight places of each run and eight minutes' facts, again every hour: "most stations report in bunches".
+    Bunched,
+}
+
+impl Record {
+    pub const ALL: [Record; 3] = [Record::Full, Record::Empty, Record::Bunched];
+
+    pub fn name(self) -> &'static str {
+        match self {
+            Record::Full => "full",
+            Record::Empty => "empty",
+            Record::Bunched => "bunched",
+        }
+    }
+
+    /// Makes this record of a full one.
+    fn thin(self, policy: &Policy, buffers: &mut Buffers) {
+        match self {
+            Record::Full => (),
+            Record::Empty => buffers.forget(policy),
+            Record::Bunched => forget_between_bunches(policy, buffers),
+        }
+    }
+}
+
+/// Places and minutes of a bunch, and from one bunch's start to the next's.
+const BUNCH: usize = 8;
+const HOUR: usize = 60;
 
 #[derive(Clone, Copy)]
 pub struct Shape {
@@ -74,7 +111,23 @@ fn full_record(random: &mut Random, policy: &Policy) -> Buffers {
     buffers
 }
 
-/// So many alive messages that say again what the record knows, of each component in turn and from the last minute back.
+fn forget_between_bunches(policy: &Policy, buffers: &mut Buffers) {
+    let known = |place: usize| place % HOUR < BUNCH;
+    for run in buffers.numbers.chunks_exact_mut(policy.minutes + 1) {
+        run.iter_mut().enumerate().filter(|(place, _)| !known(*place)).for_each(|(_, cell)| *cell = NOT_KNOWN);
+    }
+    let words = buffers.facts.chunks_exact_mut(2).enumerate();
+    words.filter(|(minute, _)| !known(*minute)).for_each(|(_, words)| words.fill(0));
+}
+
+/// An alive message of the first component that says again the last number that the record knows of it.
+fn known_message(policy: &Policy, buffers: &Buffers) -> Vec<u8> {
+    let known = buffers.known_numbers(policy, 0);
+    let (minute, number) = known[known.len() - 1];
+    encode_message(&Message { component: 0, event: Event::Alive { minute, number } })
+}
+
+/// So many alive messages that say again what a full record knows, of each component in turn and from the last minute back.
 pub fn known_messages(policy: &Policy, buffers: &Buffers, count: usize) -> Vec<Vec<u8>> {
     let message = |i: usize| {
         let (component, minute) = (i % policy.components, policy.minutes - i % policy.minutes);
@@ -85,11 +138,12 @@ pub fn known_messages(policy: &Policy, buffers: &Buffers, count: usize) -> Vec<V
 }
 
 impl Workload {
-    pub fn new(shape: &Shape) -> Workload {
+    pub fn new(shape: &Shape, record: Record) -> Workload {
         let mut random = Random::new(2_026);
         let policy = policy(&mut random, shape);
-        let buffers = full_record(&mut random, &policy);
-        let message = known_messages(&policy, &buffers, 1).concat();
+        let mut buffers = full_record(&mut random, &policy);
+        record.thin(&policy, &mut buffers);
+        let message = known_message(&policy, &buffers);
         Workload { encoded: encode_policy(&policy), policy, message, buffers }
     }
 }

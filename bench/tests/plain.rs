@@ -1,8 +1,21 @@
-//! The algorithm in safe Rust is the monitor's: same answers and same buffers after every message of random lists.
+//! The algorithm in safe Rust is the monitor's: same answers and same buffers after every message of random lists, and with every record
+//! that is measured.
 
 use bench::plain;
+use bench::workload::{Record, Shape, Workload, LARGEST};
 use oracle::generate::{self, Limits, Random};
 use oracle::Buffers;
+
+/// Offers a message to both, which must answer alike and leave the same buffers; is it taken?
+fn both(policy: &[u8], message: &[u8], monitor: &mut Buffers, other: &mut Buffers) -> bool {
+    let Buffers { numbers, facts, valuation, verdicts } = &mut *monitor;
+    let expected = zankezurt::receive(policy, message, numbers, facts, valuation, verdicts);
+    let Buffers { numbers, facts, valuation, verdicts } = &mut *other;
+    let answer = plain::receive(policy, message, numbers, facts, valuation, verdicts);
+    assert_eq!(answer, expected.map_err(|r| (r.reason.number(), r.place)));
+    assert_eq!(other, monitor);
+    answer.is_ok()
+}
 
 fn compare(seed: u64, limits: &Limits, lists: usize) -> usize {
     let mut random = Random::new(seed);
@@ -16,13 +29,7 @@ fn compare(seed: u64, limits: &Limits, lists: usize) -> usize {
         zankezurt::open(&bytes, numbers, facts, valuation, verdicts).unwrap();
         let mut other = monitor.clone();
         for message in generate::offers(&mut random, &policy, &trace, 12) {
-            let Buffers { numbers, facts, valuation, verdicts } = &mut monitor;
-            let expected = zankezurt::receive(&bytes, &message, numbers, facts, valuation, verdicts);
-            let Buffers { numbers, facts, valuation, verdicts } = &mut other;
-            let answer = plain::receive(&bytes, &message, numbers, facts, valuation, verdicts);
-            assert_eq!(answer, expected.map_err(|r| (r.reason.number(), r.place)));
-            assert_eq!(other, monitor);
-            taken += answer.is_ok() as usize;
+            taken += both(&bytes, &message, &mut monitor, &mut other) as usize;
         }
     }
     taken
@@ -36,4 +43,41 @@ fn is_the_same_on_small_policies() {
 #[test]
 fn is_the_same_on_large_policies() {
     assert!(compare(2, &generate::LARGEST, 40) > 40);
+}
+
+/// The measured message is taken and adds nothing to the record; others of any trace are taken or not, by both.
+fn compare_record(random: &mut Random, shape: &Shape, record: Record) {
+    let Workload { policy, encoded, message, buffers } = Workload::new(shape, record);
+    let (mut monitor, mut other) = (buffers.clone(), buffers.clone());
+    assert!(both(&encoded, &message, &mut monitor, &mut other));
+    assert_eq!((&monitor.numbers, &monitor.facts), (&buffers.numbers, &buffers.facts));
+    let trace = generate::trace(random, &policy, 2);
+    for message in generate::offers(random, &policy, &trace, 12) {
+        both(&encoded, &message, &mut monitor, &mut other);
+    }
+}
+
+#[test]
+fn is_the_same_with_the_records_that_are_measured() {
+    let mut random = Random::new(3);
+    for record in Record::ALL {
+        for minutes in [1, 7, 8, 9, 60, 128, 1_000] {
+            compare_record(&mut random, &Shape { minutes, ..LARGEST }, record);
+        }
+        (0..4).for_each(|_| compare_record(&mut random, &LARGEST, record));
+    }
+}
+
+/// How much of a run is known.
+#[test]
+fn records_know_all_nothing_and_bunches() {
+    let known = |record| {
+        let Workload { policy, buffers, .. } = Workload::new(&LARGEST, record);
+        let facts = buffers.facts.chunks_exact(2).filter(|words| words[0] != 0).count();
+        (buffers.known_numbers(&policy, 0).len(), buffers.known_numbers(&policy, 15).len(), facts)
+    };
+    assert_eq!(known(Record::Full), (1_025, 1_025, 1_024));
+    assert_eq!(known(Record::Empty), (1, 1, 0));
+    // 17 hours of eight, and the places 1020 to 1024 or the minutes 1020 to 1023
+    assert_eq!(known(Record::Bunched), (141, 141, 140));
 }
