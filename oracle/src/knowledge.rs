@@ -41,9 +41,15 @@ impl Buffers {
             && self.verdicts.len() == exact.verdicts.len()
     }
 
+    /// The component's run: its cells, place by place.
+    pub fn run(&self, policy: &Policy, component: usize) -> &[u16] {
+        let places = policy.minutes + 1;
+        &self.numbers[component * places..(component + 1) * places]
+    }
+
     /// The component's sequence number at a place, if known.
     pub fn number(&self, policy: &Policy, component: usize, place: usize) -> Option<usize> {
-        let cell = self.numbers[component * (policy.minutes + 1) + place];
+        let cell = self.run(policy, component)[place];
         (cell != NOT_KNOWN).then_some(cell as usize)
     }
 
@@ -151,13 +157,43 @@ pub fn known_busy(policy: &Policy, buffers: &Buffers, minute: usize) -> bool {
     })
 }
 
-/// "It is known quiet if every station has equal known counts at some a < t and some b ≥ t." Minute a is place a + 1,
-/// so that a < t are the places 0 to t, and b ≥ t those from t + 1 to M.
+/// "It is known quiet if every station has equal known counts at some a < t and some b ≥ t."
 pub fn known_quiet(policy: &Policy, buffers: &Buffers, minute: usize) -> bool {
-    (0..policy.components).all(|component| {
-        let number = |place| buffers.number(policy, component, place);
-        (0..=minute).any(|a| number(a).is_some() && (minute + 1..=policy.minutes).any(|b| number(a) == number(b)))
-    })
+    (0..policy.components).all(|component| quiet_in(buffers.run(policy, component), minute))
+}
+
+/// What that sentence asks of one component, over its run. Minute a is place a + 1, so that a < t are the places 0 to
+/// t, and b ≥ t those from t + 1 to M; a number that is equal to a known one is known.
+fn quiet_in(run: &[u16], minute: usize) -> bool {
+    let known = |place: &usize| run[*place] != NOT_KNOWN;
+    (0..=minute).filter(known).any(|a| (minute + 1..run.len()).any(|b| run[a] == run[b]))
+}
+
+/// What request 2 of document 02 has a search answer: "whether a minute is quiet for a station", and between which
+/// places it looked.
+#[derive(Clone, Copy, Debug, PartialEq, Eq)]
+pub struct Search {
+    pub quiet: bool,
+    /// The place of "the nearest known count before the minute".
+    pub before: Option<usize>,
+    /// The place of "the nearest at or after it".
+    pub after: Option<usize>,
+    /// "The number of places read."
+    pub reads: usize,
+}
+
+/// A search of one component's run for a minute, which is at most M. "The answer keeps its meaning": any a and b will
+/// do, and the two nearest places bear only on how many are read.
+///
+/// "Exactly those from the nearest known count before the minute to the nearest at or after it, both counted, or to the
+/// run's end if there is none." The papers say nothing of a run in which none is known before the minute, as in no
+/// sound record: there the places are read from the run's start.
+pub fn search(run: &[u16], minute: usize) -> Search {
+    let known = |place: &usize| run[*place] != NOT_KNOWN;
+    let before = (0..=minute).filter(known).max();
+    let after = (minute + 1..run.len()).filter(known).min();
+    let (first, last) = (before.unwrap_or(0), after.unwrap_or(run.len() - 1));
+    Search { quiet: quiet_in(run, minute), before, after, reads: (first..=last).count() }
 }
 
 /// e of "The reading" at every minute of the policy: true, false or unknown for known busy, known quiet or open.

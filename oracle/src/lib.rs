@@ -10,7 +10,7 @@
 //! | `encoding` | what the formats of policy and message share |
 //! | `policy`, `message` | the two readers |
 //! | `trace` | one run of the components, and what it could have sent |
-//! | `knowledge` | the four buffers: soundness, what a message fixes, conflicts, known time points |
+//! | `knowledge` | the four buffers: soundness, what a message fixes, conflicts, known time points, searches |
 //! | `reading` | the three-valued and the two-valued reading, and the verdicts |
 //! | `monitor` | the calls: open, receive, receive_packet, lookup |
 //! | `program` | the printing program |
