@@ -1,4 +1,4 @@
-//! The printing program as a process, and what is expected of it.
+//! The printing program as a process, and what is expected of it; and the program that prints vectors of the knowledge.
 
 use oracle::program::Refused;
 use std::io::Write;
@@ -14,15 +14,29 @@ pub fn root() -> PathBuf {
 
 /// `target/bin/release_sheet` of the repository, or what ZANKEZURT_PROGRAM says.
 pub fn program() -> PathBuf {
-    let built = || root().join("target/bin/release_sheet");
-    let program = env::var("ZANKEZURT_PROGRAM").map_or_else(|_| built(), PathBuf::from);
-    assert!(program.exists(), "no {}: run `rt check release_sheet` first", program.display());
+    built("release_sheet", "ZANKEZURT_PROGRAM")
+}
+
+/// `target/bin/knowledge_vectors` of the repository, or what ZANKEZURT_KNOWLEDGE_VECTORS says.
+pub fn knowledge_vectors() -> PathBuf {
+    built("knowledge_vectors", "ZANKEZURT_KNOWLEDGE_VECTORS")
+}
+
+fn built(name: &str, variable: &str) -> PathBuf {
+    let beside = || root().join("target/bin").join(name);
+    let program = env::var(variable).map_or_else(|_| beside(), PathBuf::from);
+    assert!(program.exists(), "no {}: run `rt check {name}` first", program.display());
     program
 }
 
-/// What the program does with this standard input, which reaches it through a pipe and in pieces.
+/// What the printing program does with this standard input.
 pub fn printed(input: &[u8]) -> Output {
-    let mut command = Command::new(program());
+    printed_by(&program(), input)
+}
+
+/// What a program does with this standard input, which reaches it through a pipe and in pieces.
+pub fn printed_by(program: &Path, input: &[u8]) -> Output {
+    let mut command = Command::new(program);
     command.stdin(Stdio::piped()).stdout(Stdio::piped()).stderr(Stdio::piped());
     let mut child = command.spawn().unwrap();
     let mut stdin = child.stdin.take().unwrap();

@@ -1,7 +1,8 @@
 #!/usr/bin/env python3
-"""Writes the vectors to `stdin`, and to `stdout` what a checker made from 01 alone, apart from the crate, says of them.
+"""Writes the vectors to `stdin`, and to `stdout` what a checker made from 01 and 02 alone, apart from the crate, says of them.
 
-The checker knows no gaps and no neighbours: it tests every pair of places, and asks of a slip whether some shift has its counts."""
+The checker knows no gaps and no neighbours: it tests every pair of places, and asks of a slip whether some shift has its counts. Its searches
+do not walk: they take the last and the first of all known places, and count the places from the one to the other."""
 import os
 import random
 
@@ -115,8 +116,27 @@ def offered(sizes, numbers, facts, slip):
     return 'stored' + ''.join(f' {n}' for n in numbers) + ' /' + ''.join(f' {f}' for f in facts)
 
 
+def found(run, t):
+    """02: the nearest known count before minute t, the nearest at or after it, and how many places stand from the one to the other, both counted,
+    or to the run's end if there is none; by 01, whether some known counts before it and at or after it are equal. Place p is minute p - 1, so that
+    before minute t are the places 0 to t. Where none is known before, which no sound record has, the places are counted from the run's start."""
+    before = [p for p in range(t + 1) if run[p] != NONE]
+    after = [p for p in range(t + 1, len(run)) if run[p] != NONE]
+    quiet = any(run[a] == run[b] for a in before for b in after)
+    first, last = max(before, default=0), min(after, default=len(run) - 1)
+    read = [p for p in range(len(run)) if first <= p <= last]
+    return f'{"quiet" if quiet else "not quiet"} {first} {last if after else "-"} {len(read)}'
+
+
 def about(text):
     lines.append(('# ' + text, '# ' + text))
+
+
+def written(data):
+    """The bytes as a line has them."""
+    while data[-1] == 0:
+        data.pop()
+    return ' '.join(f'{b:02X}' for b in data)
 
 
 def vector(sizes, numbers, facts, slip, told=row):
@@ -127,14 +147,25 @@ def vector(sizes, numbers, facts, slip, told=row):
         data += n.to_bytes(2, 'little')
     for f in facts:
         data += f.to_bytes(4, 'little')
-    while data[-1] == 0:
-        data.pop()
     if not sound(sizes, numbers, facts):
         answer = 'corrupt'
     else:
         answer = f'sound {told(sizes, numbers)} {offered(sizes, numbers, facts, slip)}'
-    lines.append((' '.join(f'{b:02X}' for b in data), answer))
+    lines.append((written(data), answer))
     return answer
+
+
+def searches(run, minutes, worked=None):
+    """A search from each of the minutes; the answers worked by hand, where there are some, are what the checker says."""
+    counts = [v for v in run if v != NONE]
+    assert counts == sorted(counts) and 1 <= len(run) <= 1025 and all(0 <= t < len(run) for t in minutes)
+    answers = [found(run, t) for t in minutes]
+    assert worked is None or answers == worked
+    for t, answer in zip(minutes, answers):
+        data = [*t.to_bytes(2, 'little'), *len(run).to_bytes(2, 'little')]
+        for n in run:
+            data += n.to_bytes(2, 'little')
+        lines.append(('?' + written(data), answer))
 
 
 def known(sizes, numbers, facts, slip):
@@ -265,6 +296,71 @@ for _ in range(1024):
     run.append(n)
 run = [0] + [v if rng.random() < 0.6 else NONE for v in run[1:]]
 vector(L, run, [0] * 2048, alive(0, 1024, 1025), quick_row)
+
+about('searches outwards: every minute of a run with gaps, and of one with a gap at its end')
+searches([0, 1, NONE, NONE, 1, 2, NONE, 3], range(7),
+         ['not quiet 0 1 2', 'quiet 1 4 4', 'quiet 1 4 4', 'quiet 1 4 4', 'not quiet 4 5 2', 'not quiet 5 7 3', 'not quiet 5 7 3'])
+searches([0, NONE, 1, NONE, NONE], range(4), ['not quiet 0 2 3', 'not quiet 0 2 3', 'not quiet 2 - 3', 'not quiet 2 - 3'])
+about('the count at minute t - 1 stands at place t: the minute whose own count is known, and the next one')
+searches([0, NONE, NONE, 0, NONE, NONE, 1], [2, 3], ['quiet 0 3 4', 'not quiet 3 6 4'])
+searches([0, NONE, NONE, 2, NONE, NONE, 2], [2, 3], ['not quiet 0 3 4', 'quiet 3 6 4'])
+about('minute 0, and the last minute')
+for run in [[0, 0, NONE, NONE], [0, 1, NONE, NONE], [0, NONE, NONE, 0], [0, NONE, NONE, 3], [0, NONE, 1, 1], [0, NONE, 1, 2], [0, NONE, 1, NONE], [0, 0], [0, 1]]:
+    searches(run, [0, len(run) - 2])
+about('none known at or after the minute: read to the end of the run')
+searches([0, NONE, 1, NONE, NONE, NONE, NONE], [2, 3, 5], ['not quiet 2 - 5'] * 3)
+searches([0, 1, 1, NONE], [2], ['not quiet 2 - 2'])
+about('all counts known: two places each')
+searches([0, 0, 1, 2, 2, 3], range(5), ['quiet 0 1 2', 'not quiet 1 2 2', 'not quiet 2 3 2', 'quiet 3 4 2', 'not quiet 4 5 2'])
+about('only the first count known: the whole run')
+searches([0] + [NONE] * 6, range(6), ['not quiet 0 - 7'] * 6)
+about('equal counts on both sides, with more of them farther out')
+searches([0, 0, NONE, 0, NONE, NONE, 0, 0], range(7),
+         ['quiet 0 1 2', 'quiet 1 3 3', 'quiet 1 3 3', 'quiet 3 6 4', 'quiet 3 6 4', 'quiet 3 6 4', 'quiet 6 7 2'])
+about('counts that differ, by one and by more, with equal ones on either side by themselves')
+searches([0, 0, NONE, NONE, 1, 1], [1, 2, 3], ['not quiet 1 4 4'] * 3)
+searches([0, 1, 1, NONE, NONE, NONE, 4, 4, 4], [2, 4, 5], ['not quiet 2 6 5'] * 3)
+about('counts that look like an unknown one in one byte, or nearly')
+for high in [255, 65280, 65534]:
+    searches([0, high, NONE, high], [0, 1, 2], ['not quiet 0 1 2', 'quiet 1 3 3', 'quiet 1 3 3'])
+about('the first count not known: read to the start of the run; and no count at all')
+searches([NONE, NONE, 0, NONE, 0, 1], range(5), ['not quiet 0 2 3', 'not quiet 0 2 3', 'quiet 2 4 3', 'quiet 2 4 3', 'not quiet 4 5 2'])
+searches([NONE] * 5, [0, 2, 3], ['not quiet 0 - 5'] * 3)
+about('a run of one place, and the minute after the last')
+searches([0], [0], ['not quiet 0 - 1'])
+searches([NONE], [0], ['not quiet 0 - 1'])
+searches([0, NONE, 0, 0], [3], ['not quiet 3 - 1'])
+searches([0, NONE, 0, NONE, NONE], [4], ['not quiet 2 - 3'])
+
+rng = random.Random(2)
+
+
+def rising(places, keep, busy=0.3):
+    """Counts of some shift, known at the places that `keep` answers for."""
+    run = [0]
+    while len(run) < places:
+        run.append(run[-1] + (rng.random() < busy))
+    return [v if keep(p) else NONE for p, v in enumerate(run)]
+
+
+about('random runs')
+for _ in range(40):
+    places, share = rng.randint(2, 14), rng.random()
+    run = rising(places, lambda p: p == 0 or rng.random() < share)
+    searches(run, [rng.randrange(places - 1)])
+about('random runs whose first count may be unknown')
+for _ in range(10):
+    places, share = rng.randint(2, 14), rng.random()
+    searches(rising(places, lambda p: rng.random() < share), [rng.randrange(places)])
+about('runs that report in bunches, eight minutes of every 60')
+for minute in [3, 30, 63]:
+    searches(rising(68, lambda p: p % 60 < 8, 0.05), [minute])
+about('1,024 minutes: all known, a gap in it, none known at first, in bunches, and only the first known')
+searches([0] * 1025, [0, 511, 1023, 1024])
+searches([0] + [NONE] * 40 + [0] * 984, [20, 40, 41])
+searches([NONE] * 30 + [0] * 995, [15])
+searches(rising(1025, lambda p: p % 60 < 8, 0.01), [620])
+searches([0] + [NONE] * 1024, [700], ['not quiet 0 - 1025'])
 
 folder = os.path.dirname(os.path.abspath(__file__))
 for name, column in (('stdin', 0), ('stdout', 1)):

@@ -1,4 +1,5 @@
 pub mod Walk
+pub mod Searching
 pub mod Gap
 pub mod Putting
 pub mod Pair

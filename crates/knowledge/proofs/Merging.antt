@@ -1,12 +1,13 @@
 -- What two codes tell of a minute together, by the tests that decide it. Assumes nothing.
 use mathlib.Core.Path.{_≡_, refl, sym, ap, ap₂, _∙_}
-use mathlib.Core.Bool.{Bool, true, false, _&&_, _||_}
-use Prim.Native.Nat.{ℕ, zero, suc}
+use mathlib.Core.Bool.{Bool, true, false, cond, _&&_, _||_, true≢false, false≢true}
+use Prim.Native.Nat.{ℕ, zero, suc, _≤_, _<_}
 use native.Mathlib.Omega.{arith}
 use lib.Dec.{eqb}
-use borrow.Author.Tests.{ne-eqb}
-use Rattle.kleene.specs.Truth.{code-of, value-of, or3}
+use borrow.Author.Tests.{eq-eqb, ne-eqb}
+use Rattle.kleene.specs.Truth.{unknown, true3, false3, code-of, value-of, or3}
 use Rattle.knowledge.specs.Knowledge.{says}
+use Rattle.knowledge.specs.Run.{gap}
 
 value-says : (x : ℕ) → value-of x ≡ says (eqb x 1) (eqb x 2)
 value-says zero = refl
@@ -39,3 +40,37 @@ module _ (x y : ℕ) where
 
   pub merge-neither : (eqb x 1 || eqb y 1) ≡ false → (eqb x 2 && eqb y 2) ≡ false → 0 ≡ code-of (or3 (value-of x) (value-of y))
   merge-neither p q = sym (merge-says x y ∙ ap₂ (λ (a b : Bool). code-of (says a b)) p q)
+
+-- the one minute between two neighbouring known places: busy whatever was told, and else what was told stays
+abbrev step : ℕ → Bool → ℕ
+step x l = code-of (or3 (value-of x) (cond l false3 true3))
+
+pub step-busy : (x : ℕ) (l : Bool) → l ≡ false → 1 ≡ step x l
+step-busy x true e = absurd (true≢false e)
+step-busy zero false e = refl
+step-busy (suc zero) false e = refl
+step-busy (suc (suc zero)) false e = refl
+step-busy (suc (suc (suc n))) false e = refl
+
+pub step-kept : (x : ℕ) (l : Bool) → l ≡ true → x < 3 → x ≡ step x l
+step-kept x false e h = absurd (false≢true e)
+step-kept zero true e h = refl
+step-kept (suc zero) true e h = refl
+step-kept (suc (suc zero)) true e h = refl
+step-kept (suc (suc (suc n))) true e h = absurd (let z : ⊥ = omega arith in z)
+
+pub step-open : (x : ℕ) (l : Bool) → l ≡ true → 3 ≤ x → 0 ≡ step x l
+step-open x false e h = absurd (false≢true e)
+step-open zero true e h = absurd (let z : ⊥ = omega arith in z)
+step-open (suc zero) true e h = absurd (let z : ⊥ = omega arith in z)
+step-open (suc (suc zero)) true e h = absurd (let z : ⊥ = omega arith in z)
+step-open (suc (suc (suc n))) true e h = refl
+
+-- what a gap's minutes are told, by its length
+pub gap-one : (l : Bool) (d : ℕ) → d ≡ 1 → cond l false3 true3 ≡ gap l d
+unfolding gap
+gap-one l d e = rw (eq-eqb d 1 e)
+
+pub gap-wide : (l : Bool) (d : ℕ) → (d ≡ 1 → ⊥) → cond l false3 unknown ≡ gap l d
+unfolding gap
+gap-wide l d e = rw (ne-eqb d 1 e)

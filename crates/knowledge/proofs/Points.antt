@@ -19,11 +19,10 @@ use Rattle.knowledge.proofs.Merging.{or-says}
 use Rattle.logic.specs.Bools.{de-morgan}
 use Rattle.knowledge.specs.Run.{joined, told}
 
-pub stretch : (f : ℕ → ℕ) (m mid hi : ℕ) (old row new : List ℕ) (code : ℕ) → Over (joined old (told f m)) 0 mid old row
-    → Over (joined row (λ _. value-of code)) mid hi row new → mid ≤ hi
-    → ((t : ℕ) → mid ≤ t → t < hi → value-of code ≡ told f m t) → Over (joined old (told f m)) 0 hi old new
-stretch f m mid hi old row new code o s l e =
-    two (joined old (told f m)) (joined row (λ _. value-of code)) 0 mid hi old row new o s (omega arith) l
+pub stretch : (f : ℕ → ℕ) (m mid hi : ℕ) (old row new : List ℕ) (x : Truth) → Over (joined old (told f m)) 0 mid old row
+    → Over (joined row (λ _. x)) mid hi row new → mid ≤ hi → ((t : ℕ) → mid ≤ t → t < hi → x ≡ told f m t) → Over (joined old (told f m)) 0 hi old new
+stretch f m mid hi old row new x o s l e =
+    two (joined old (told f m)) (joined row (λ _. x)) 0 mid hi old row new o s (omega arith) l
     (λ t p q. ap₂ (λ (x : ℕ) (y : Truth). code-of (or3 (value-of x) y)) (o .above t p) (e t p q))
 
 -- what the first n components tell of minute t

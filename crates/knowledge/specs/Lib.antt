@@ -12,4 +12,6 @@ pub mod Window
 pub mod Worlds
 pub mod Exact
 pub mod Run
+pub mod Outwards
+pub mod Nearest
 pub mod Runs

@@ -4,12 +4,14 @@ use Prim.Native.Nat.{ℕ}
 use mathlib.Core.Path.{_≡_, refl}
 use mathlib.Core.Bool.{true, false}
 use mathlib.Core.List.{List, [], _∷_, _++_}
+use lib.ListN.{getD}
 use Rattle.kleene.specs.Truth.{Truth, unknown, true3, false3}
 use Rattle.bits.specs.Bits.{bit}
 use Rattle.policy.specs.declared.Sizes.{Sizes}
 use Rattle.message.specs.declared.Event.{Event}
 use Rattle.message.specs.declared.Event.the-variants.{Observation, Alive}
 use Rattle.knowledge.specs.Knowledge.{Knowledge, none, follow, steady, rises, level, word-sound, noted, valued, fact, number, is-point, is-none, sound, point-known, fresh, stored}
+use Rattle.knowledge.specs.Outwards.{in-reach, places-read}
 
 -- one proposition, n components, four minutes: a run has five places, the first of which stands for "before minute 0"
 abbrev sizes : ℕ → Sizes
@@ -63,6 +65,15 @@ busy = run 0 1 u u u
 abbrev open-throughout : List Truth
 open-throughout = minutes unknown unknown unknown unknown
 
+-- how many places the searches from the four minutes read
+abbrev reads : List ℕ → List ℕ
+reads l =
+    let f : ℕ → ℕ = λ p. getD l p 0 in
+    places-read f 4 0 ∷ places-read f 4 1 ∷ places-read f 4 2 ∷ places-read f 4 3 ∷ []
+
+abbrev each-reads : ℕ → ℕ → ℕ → ℕ → List ℕ
+each-reads a b c d = a ∷ b ∷ c ∷ d ∷ []
+
 -- the fresh knowledge of two components, with an event of the second one
 abbrev with-event : Event → Knowledge
 with-event x = stored (sizes 2) (fresh (sizes 2)) (record { component = 1; event = x })
@@ -98,6 +109,18 @@ pub record Pins : Type 0 where
   pub open-full-gap : by-two (run 0 u 2 u u) idle ≡ minutes unknown unknown unknown unknown
   -- a run's last place is not the next run's first
   pub open-at-the-end : by-two (run 0 0 0 0 u) idle ≡ minutes false3 false3 false3 unknown
+  -- a search reads the nearest known places and those between: two where all are known, and the last minute's too
+  pub reads-known : reads (run 0 1 1 1 2) ≡ each-reads 2 2 2 2
+  pub reads-gaps : reads (run 0 0 u u 0) ≡ each-reads 2 4 4 4
+  pub reads-gap-first : reads (run 0 u u 1 1) ≡ each-reads 4 4 4 2
+  -- with none at or after the minute it reads to the run's end, the last place too; of a fresh run that is all of it
+  pub reads-to-end : reads busy ≡ each-reads 2 4 4 4
+  pub reads-last : reads (run 0 0 0 0 u) ≡ each-reads 2 2 2 2
+  pub reads-fresh : reads silent ≡ each-reads 5 5 5 5
+  -- with none before it, to the run's start
+  pub reads-from-start : reads (run u u 1 u u) ≡ each-reads 3 3 3 3
+  pub reads-first-known : reads (run u 1 u 1 u) ≡ each-reads 2 3 3 2
+  pub reads-whole : reads (run u u u u u) ≡ each-reads 5 5 5 5
   -- the fresh knowledge tells nothing
   pub fresh-open : by-fresh ≡ open-throughout
   pub fresh-silent : fresh (sizes 2) .numbers ≡ silent ++ silent
@@ -128,7 +151,7 @@ pub record Pins : Type 0 where
   pub beyond-policy : is-corrupt silent 2 0
 
 pub pins : Pins
-unfolding bit follow steady rises level word-sound noted valued number is-point is-none sound fresh stored
+unfolding bit follow steady rises level word-sound noted valued number is-point is-none sound fresh stored in-reach places-read
 pins = record {
   quiet-across-gap = refl;
   quiet-to-the-last = refl;
@@ -144,6 +167,15 @@ pins = record {
   open-two-apart = refl;
   open-full-gap = refl;
   open-at-the-end = refl;
+  reads-known = refl;
+  reads-gaps = refl;
+  reads-gap-first = refl;
+  reads-to-end = refl;
+  reads-last = refl;
+  reads-fresh = refl;
+  reads-from-start = refl;
+  reads-first-known = refl;
+  reads-whole = refl;
   fresh-open = refl;
   fresh-silent = refl;
   fresh-facts = refl;

@@ -1,5 +1,5 @@
 -- The words of the functions' contracts: what is asked of one run, of a list of runs, and of the row that they tell.
-use Prim.Native.Nat.{ℕ, suc, _-_, _≤_, _<_}
+use Prim.Native.Nat.{ℕ, suc, _+_, _-_, _≤_, _<_, min}
 use mathlib.Core.Path.{_≡_}
 use mathlib.Core.Bool.{Bool, cond, _&&_}
 use mathlib.Core.List.{List}
@@ -9,6 +9,7 @@ use Rattle.kleene.specs.Truth.{Truth, unknown, true3, false3, code-of, value-of
 use Rattle.policy.specs.declared.Sizes.{Sizes}
 use Rattle.message.specs.declared.Event.{Event}
 use Rattle.message.specs.Fixes.{Message}
+use Rattle.knowledge.specs.declared.Found.{Found}
 use Rattle.knowledge.specs.Knowledge.{Knowledge, most-minutes, none, run-of, Steady, steady, rises, level, says, free-place, point-known}
 
 -- the run of a list
@@ -27,9 +28,9 @@ sent component event = record { component = component; event = event }
 unfoldable pub told : (ℕ → ℕ) → ℕ → ℕ → Truth
 told f m t = says (rises f t) (level f m t)
 
--- what is told of each minute between two neighbouring known places, whose numbers are v and w and which stand d places apart
-unfoldable pub gap : ℕ → ℕ → ℕ → Truth
-gap v w d = cond (eqb v w) false3 (cond (eqb d 1) true3 unknown)
+-- what is told of each minute between two neighbouring known places, which stand d places apart: q says that the first of these minutes is quiet
+unfoldable pub gap : Bool → ℕ → Truth
+gap q d = cond q false3 (cond (eqb d 1) true3 unknown)
 
 -- a row of truth codes, with what x tells joined to each cell by Kleene's or
 abbrev pub joined : List ℕ → (ℕ → Truth) → ℕ → ℕ
@@ -59,11 +60,27 @@ pub record Next (f : ℕ → ℕ) (n from r : ℕ) : Type 0 where
   pub between : (i : ℕ) → from ≤ i → i < r → none ≤ f i
   pub there : r < n → f r < none
 
+-- what reading forth from `from` in a run of n places finds, and how many places it reads: with no number the place is n
+pub record Forth (f : ℕ → ℕ) (n from : ℕ) (r : Found) : Type 0 where
+  pub place : Next f n from (r .place)
+  pub number : r .place < n → r .number ≡ f (r .place)
+  pub nothing : n ≤ r .place → r .number ≡ none
+  pub reads : from + r .reads ≡ min (suc (r .place)) n
+
 -- r is the last known place before `place`
 pub record Previous (f : ℕ → ℕ) (place r : ℕ) : Type 0 where
   pub before : r < place
   pub known : f r < none
   pub between : (i : ℕ) → r < i → i < place → none ≤ f i
+
+-- what reading back from `place` finds, and how many places it reads: with no number the place is 0
+pub record Back (f : ℕ → ℕ) (place : ℕ) (r : Found) : Type 0 where
+  pub before : r .place < place
+  pub between : (i : ℕ) → r .place < i → i < place → none ≤ f i
+  pub there : 0 < r .place → f (r .place) < none
+  pub number : f (r .place) < none → r .number ≡ f (r .place)
+  pub nothing : none ≤ f (r .place) → r .number ≡ none
+  pub reads : r .place + r .reads ≡ place
 
 -- every component's run is steady
 abbrev pub Steady-runs : Sizes → List ℕ → Type 0

@@ -3,17 +3,18 @@ use message::Event;
 use policy::Sizes;
 ghost use mathlib.Core.Path.{_≡_};
 ghost use Prim.Native.Nat.{ℕ, suc, _+_, _-_, _*_, _^_, _≤_, _<_};
-ghost use mathlib.Core.Bool.{_&&_};
+ghost use mathlib.Core.Bool.{cond, _&&_};
 ghost use lib.Bits.{bitOr};
 ghost use lib.ListN.{length, getD, set};
-ghost use Rattle.kleene.specs.Truth.{code-of, value-of, or3};
+ghost use Rattle.kleene.specs.Truth.{unknown, true3, false3, code-of, value-of, or3};
 ghost use Rattle.rows.specs.Over.{Over};
 ghost use Rattle.mtl.specs.Algebra.{two, all};
 ghost use Rattle.message.specs.Fixes.{Fits};
-ghost use Rattle.knowledge.specs.Knowledge.{most-minutes, none, run-of, Steady, follow, steady, word-sound, words-agree};
+ghost use Rattle.knowledge.specs.Knowledge.{most-minutes, run-of, Steady, follow, steady, word-sound, words-agree};
 ghost use Rattle.knowledge.specs.Knowledge.{Sized, Sound, sound, admits, stored};
 ghost use Rattle.knowledge.specs.Laws.{Limits};
-ghost use Rattle.knowledge.specs.Run.{cell, held, sent, told, gap, joined, may, may-observe, Next, Previous, Steady-runs, Point-row};
+ghost use Rattle.knowledge.specs.Run.{cell, held, sent, told, gap, joined, may, may-observe, Forth, Back, Steady-runs, Point-row};
+ghost use Rattle.knowledge.specs.Outwards.{Outwards};
 
 // A sequence number that is not known.
 pub const NONE: u16 = 65535;
@@ -21,34 +22,92 @@ pub const NONE: u16 = 65535;
 // The most minutes that a policy may have.
 const MOST_MINUTES: usize = 1024;
 
-// The first known place from `from` on, or the run's length.
-fn next_known(run: &[u16], from: usize) -> usize
-    requires { ⌜ from ≤ length (now run) ⌝ }
-    ensures { λ r. ⌜ Next (cell (now (run .entry))) (length (now (run .entry))) from r ⌝ }
-{
-    let mut i = from;
-    while i < run.len() {
-        if run[i] < NONE {
-            return i;
-        }
-        i += 1;
-    }
-    i
+// What reading on from a place, one place after another, found: the place of the first known number and the number itself, or where the
+// reading ended and NONE, and how many places were read.
+struct Found {
+    place: usize,
+    number: u16,
+    reads: usize,
 }
 
-// The last known place before `place`.
-fn previous_known(run: &[u16], place: usize) -> usize
-    requires { ⌜ (0 < place) × (place ≤ length (now run)) × (cell (now run) 0 < none) ⌝ }
-    ensures { λ r. ⌜ Previous (cell (now (run .entry))) place r ⌝ }
+// Reads forth from `from` to the first known number, or to the run's end.
+fn next_known(run: &[u16], from: usize) -> Found
+    requires { ⌜ from ≤ length (now run) ⌝ }
+    ensures { λ r. ⌜ Forth (cell (now (run .entry))) (length (now (run .entry))) from r ⌝ }
 {
-    let mut i = place - 1;
-    while 0 < i {
-        if run[i] < NONE {
-            return i;
+    let left = run.len() - from;
+    let mut reads: usize = 0;
+    while reads < left {
+        let i = from + reads;
+        let w = run[i];
+        reads += 1;
+        if w < NONE {
+            return Found {
+                place: i,
+                number: w,
+                reads,
+            };
         }
-        i -= 1;
     }
-    0
+    Found {
+        place: run.len(),
+        number: NONE,
+        reads,
+    }
+}
+
+// Reads back from the place before `place` to the last known number, or to the run's start.
+fn previous_known(run: &[u16], place: usize) -> Found
+    requires { ⌜ (0 < place) × (place ≤ length (now run)) ⌝ }
+    ensures { λ r. ⌜ Back (cell (now (run .entry))) place r ⌝ }
+{
+    let mut reads: usize = 0;
+    while reads < place {
+        let i = place - 1 - reads;
+        let v = run[i];
+        reads += 1;
+        if v < NONE {
+            return Found {
+                place: i,
+                number: v,
+                reads,
+            };
+        }
+    }
+    Found {
+        place: 0,
+        number: NONE,
+        reads,
+    }
+}
+
+// What a search outwards from a minute finds: whether the minute is quiet for the component (01), the places of the nearest known number
+// before the minute and of the nearest at or after it, and how many places it read. With none before it the first is the run's start, and
+// with none at or after it the second is the run's length.
+pub struct Search {
+    pub level: bool,
+    pub before: usize,
+    pub after: usize,
+    pub reads: usize,
+}
+
+// Searches outwards from the minute. Each place is read once.
+pub fn search_outwards(run: &[u16], minute: usize) -> Search
+    requires { ⌜ minute < length (now run) ⌝ }
+    ensures { λ r. ⌜ ((m : ℕ) → suc m ≡ length (now (run .entry)) → Outwards (cell (now (run .entry))) m minute r) ⌝ }
+{
+    let from = minute + 1;
+    let back = previous_known(run, from);
+    let forth = next_known(run, from);
+    let v = back.number;
+    let behind = back.reads;
+    let reads = behind + forth.reads;
+    Search {
+        level: (v == forth.number) & (v < NONE),
+        before: back.place,
+        after: forth.place,
+        reads,
+    }
 }
 
 // A number v, and a number w that stands d places later.
@@ -102,25 +161,35 @@ fn may_store(run: &[u16], place: usize, v: u16) -> bool
         return here == v;
     }
     let p = previous_known(run, place);
-    if !follows(run[p], v, place - p) {
+    if !follows(p.number, v, place - p.place) {
         return false;
     }
     let q = next_known(run, place + 1);
-    if q < run.len() {
-        return follows(v, run[q], q - place);
+    if q.place < run.len() {
+        return follows(v, q.number, q.place - place);
     }
     true
 }
 
-// What each minute between two neighbouring known places is told.
-fn gap_code(v: u16, w: u16, d: usize) -> u8
-    ensures { λ r. ⌜ r ≡ code-of (gap v w d) ⌝ }
+// What each minute of a gap of more than one minute is told.
+fn gap_code(level: bool) -> u8
+    ensures { λ r. ⌜ r ≡ code-of (cond level false3 unknown) ⌝ }
 {
-    if v == w {
+    if level {
         return 2;
     }
-    if d == 1 {
+    0
+}
+
+// What is told of the one minute between two neighbouring known places, joined to its code: quiet leaves it as it is, and else it is busy.
+fn merge_step(x: u8, level: bool) -> u8
+    ensures { λ r. ⌜ r ≡ code-of (or3 (value-of x) (cond level false3 true3)) ⌝ }
+{
+    if !level {
         return 1;
+    }
+    if x < 3 {
+        return x;
     }
     0
 }
@@ -150,19 +219,24 @@ fn join(row: &mut [u8; MOST_MINUTES], lo: usize, hi: usize, code: u8)
     }
 }
 
-// Joins the cells of a gap. Most gaps of a full record are one minute long and need no loop.
-fn join_gap(row: &mut [u8; MOST_MINUTES], lo: usize, hi: usize, code: u8)
-    requires { ⌜ (lo ≤ hi) × (hi ≤ most-minutes) × (length (now row) ≡ most-minutes) ⌝ }
-    ensures { λ _. ⌜ Over (joined (now (row .entry)) (λ _. value-of code)) lo hi (now (row .entry)) (now (row .exit)) ⌝ }
+// Joins the cells of a gap with what the search from its first minute tells of each of them. Most gaps of a full record are one minute long
+// and need no loop.
+fn join_gap(row: &mut [u8; MOST_MINUTES], found: Search)
+    requires { ⌜ (found .before < found .after) × (found .after ≤ most-minutes) × (length (now row) ≡ most-minutes) ⌝ }
+    ensures { λ _. ⌜ Over (joined (now (row .entry)) (λ _. gap (found .level) (found .after - found .before))) (found .before) (found .after)
+        (now (row .entry)) (now (row .exit)) ⌝ }
 {
+    let lo = found.before;
+    let hi = found.after;
     if hi - lo == 1 {
-        row[lo] = merge(row[lo], code);
+        row[lo] = merge_step(row[lo], found.level);
         return;
     }
-    join(row, lo, hi, code);
+    join(row, lo, hi, gap_code(found.level));
 }
 
-// Joins a row with what the run tells of each minute, gap by gap.
+// Joins a row with what the run tells of each minute: one search for each gap, from its first minute, so that no place is read more than
+// twice. All minutes of a gap have one answer.
 fn join_run(row: &mut [u8; MOST_MINUTES], run: &[u16])
     requires { ⌜ (0 < length (now run))
         × (length (now run) ≤ suc most-minutes)
@@ -171,14 +245,12 @@ fn join_run(row: &mut [u8; MOST_MINUTES], run: &[u16])
     ensures { λ _. ⌜ ((m : ℕ) → suc m ≡ length (now (run .entry))
         → Over (joined (now (row .entry)) (told (cell (now (run .entry))) m)) 0 m (now (row .entry)) (now (row .exit))) ⌝ }
 {
-    let mut p: usize = 0;
-    let mut q = next_known(run, 1);
-    while q < run.len() {
-        join_gap(row, p, q, gap_code(run[p], run[q], q - p));
-        p = q;
-        q = next_known(run, q + 1);
+    let mut found = search_outwards(run, 0);
+    while found.after < run.len() {
+        join_gap(row, found);
+        found = search_outwards(run, found.after);
     }
-    join(row, p, run.len() - 1, 0);
+    join(row, found.before, run.len() - 1, 0);
 }
 
 // Is every component's run steady?

@@ -2,7 +2,11 @@
 //
 // A line is a vector, in hexadecimal with a space between bytes, where zeros at the end may be left out: propositions, components (at
 // most 2), minutes (2 bytes), the message's length and the message, the sequence numbers (2 bytes each), the facts (4 bytes each).
+// A line that starts with '?' is a search vector, its bytes right after that: minute (2 bytes), places of the run (2 bytes, 1 to 1,025) and
+// the sequence numbers (2 bytes each). Printed are the answer, the places of the nearest known numbers before the minute and at or after it
+// (- where there is none at or after it), and how many places were read.
 // A line that starts with '#' says what the next ones are, and is printed as it is.
+use knowledge::Search;
 use message::Event;
 use policy::Sizes;
 use refusal::Answer;
@@ -150,9 +154,62 @@ fn show_vector(line: &[u8]) {
     );
 }
 
+// The place of the nearest known number at or after a minute, in a run of so many places.
+fn show_after(after: usize, places: usize) {
+    if after == places {
+        io::write_all(1, b" -");
+        return;
+    }
+    show_number(after as u64);
+}
+
+// What a search in a run of so many places found.
+fn show_found(found: Search, places: usize) {
+    if !found.level {
+        io::write_all(1, b"not ");
+    }
+    io::write_all(1, b"quiet");
+    show_number(found.before as u64);
+    show_after(found.after, places);
+    show_number(found.reads as u64);
+}
+
+// Reads the sequence numbers of a line, which start at byte 4, and shows what the search from a minute finds among them.
+fn show_search(line: &[u8], minute: usize, run: &mut [u16])
+    requires { ⌜ (minute < length (now run)) × (length (now run) ≤ 1025) ⌝ }
+{
+    hex_lines::words_from(line, 4, run);
+    let found = knowledge::search_outwards(run, minute);
+    show_found(found, run.len());
+}
+
+// How many places the run of a search vector has.
+fn run_size(line: &[u8]) -> usize
+    ensures { λ r. ⌜ (1 ≤ r) × (r ≤ 1025) ⌝ }
+{
+    (hex_lines::word_at(line, 2) as usize + 1024) % 1025 + 1
+}
+
+// The minute of a search vector, whose run has so many places.
+fn minute_of(line: &[u8], places: usize) -> usize
+    requires { ⌜ 1 ≤ places ⌝ }
+    ensures { λ r. ⌜ r < places ⌝ }
+{
+    hex_lines::word_at(line, 0) as usize % places
+}
+
+fn show_search_vector(line: &[u8]) {
+    let n = run_size(line);
+    let minute = minute_of(line, n);
+    let mut run = [0u16; 1025];
+    show_search(line, minute, &mut run[0..n]);
+}
+
 fn show_line(line: &[u8]) {
     if 0 < line.len() && line[0] == b'#' {
         io::write_all(1, line);
+    } else if 0 < line.len() && line[0] == b'?' {
+        show_search_vector(&line[1..]);
     } else {
         show_vector(line);
     }

@@ -1,0 +1,109 @@
+-- What reading back and reading forth from a minute find, taken together, is what the search outwards from it gives.
+-- Assumes nothing.
+use mathlib.Core.Path.{_≡_, sym, subst, _∙_}
+use mathlib.Core.Logic.{_⊎_, inl, inr, ⊎-elim}
+use mathlib.Core.Bool.{_&&_}
+use Prim.Native.Nat.{ℕ, suc, _+_, _-_, _≤_, _<_}
+use native.Mathlib.Nat.{eq-or-lt-of-le}
+use native.Mathlib.Decide.{decLt, ℕ-discrete}
+use native.Mathlib.Omega.{arith}
+use lib.Dec.{ltb, eqb}
+use Rattle.decide.specs.Laws.{agree, same, less, equal, both}
+use Rattle.knowledge.specs.declared.Found.{Found}
+use Rattle.knowledge.specs.Knowledge.{none, Level, level}
+use Rattle.knowledge.specs.Run.{Back, Forth, Previous}
+use Rattle.knowledge.specs.Runs.{level-decides}
+use Rattle.knowledge.specs.Outwards.{Nearest-before, Nearest-after, None-before, None-after, places-read, Never-falls, Outwards}
+use Rattle.knowledge.specs.Nearest.{read-from-to, level-before, level-after, level-nearest}
+
+-- where the first place is known, so is the one that is found
+pub known-before : (f : ℕ → ℕ) (place : ℕ) (r : Found) → f 0 < none → Back f place r → Previous f place (r .place)
+known-before f place r k B = record { before = B .before; known = go (ℕ-discrete (r .place) 0); between = B .between }
+  where
+    go : Dec (r .place ≡ 0) → f (r .place) < none
+    go (yes e) = subst (λ (i : ℕ). f i < none) (sym e) k
+    go (no e) = B .there (omega arith)
+
+module _ (f : ℕ → ℕ) (m t : ℕ) (back forth : Found) (inside : t ≤ m) (B : Back f (t + 1) back) (F : Forth f (suc m) (t + 1) forth) where
+  abbrev a : ℕ
+  a = back .place
+
+  abbrev b : ℕ
+  b = forth .place
+
+  abbrev Before : Type 0
+  Before = Nearest-before f t a ⊎ (None-before f t × (a ≡ 0))
+
+  abbrev After : Type 0
+  After = Nearest-after f m t b ⊎ (None-after f m t × (b ≡ suc m))
+
+  before : Before
+  before = go (decLt (f a) none) (ℕ-discrete a 0)
+    where
+      go : Dec (f a < none) → Dec (a ≡ 0) → Before
+      go (yes k) e = let l = B .before in inl (record { before = omega arith; known = k; nearest = λ i u w. B .between i u (omega arith) })
+      go (no k) (no e) = absurd (let h = B .there (omega arith) in let z : ⊥ = omega arith in z)
+      go (no k) (yes e) = inr (nothing, e)
+        where
+          nothing : None-before f t
+          nothing i w =
+              let le : a ≤ i = omega arith in
+              let here : none ≤ f a = omega arith in
+              ⊎-elim (λ (s : a ≡ i). subst (λ (j : ℕ). none ≤ f j) s here) (λ (u : a < i). B .between i u (omega arith)) (eq-or-lt-of-le le)
+
+  after : After
+  after = go (decLt b (suc m))
+    where
+      go : Dec (b < suc m) → After
+      go (yes l) =
+          let past = F .place .past in
+          inl (record { after = omega arith; within = omega arith; known = F .place .there l; nearest = λ i u w. F .place .between i (omega arith) w })
+      go (no l) = let within = F .place .within in inr (λ i u w. F .place .between i (omega arith) (omega arith), omega arith)
+
+  abbrev x : ℕ
+  x = back .number
+
+  abbrev y : ℕ
+  y = forth .number
+
+  answer : Before → After → Never-falls f m → (eqb x y && ltb x none) ≡ level f m t
+  answer before after S = agree (same (there before after) (here before after) (both (equal x y) (less x none))) (level-decides f m t)
+    where
+      y-there : Nearest-after f m t b → y ≡ f b
+      y-there A = F .number (omega (arith, A .within))
+
+      there : Before → After → (x ≡ y) × (x < none) → Level f m t
+      there (inl N) (inl A) h = level-nearest f m t S a b N A .1 (sym (B .number (N .known)) ∙ h .0 ∙ y-there A)
+      there (inl N) (inr A) h = absurd (let s = F .nothing (omega (arith, A .1)) in let z : ⊥ = omega (arith, h) in z)
+      there (inr N) A h = absurd (let s = B .nothing (N .0 a (omega (arith, N .1))) in let z : ⊥ = omega (arith, h) in z)
+
+      here : Before → After → Level f m t → (x ≡ y) × (x < none)
+      here (inl N) (inl A) Q =
+          let s = B .number (N .known) in
+          let k = N .known in
+          (s ∙ level-nearest f m t S a b N A .0 Q ∙ sym (y-there A), omega arith)
+      here (inl N) (inr A) Q = absurd (level-after f m t (A .0) Q)
+      here (inr N) A Q = absurd (level-before f m t (N .0) Q)
+
+  reads : After → back .reads + forth .reads ≡ places-read f m t
+  reads (inl A) =
+      let l = B .before in
+      let p = B .reads in
+      let q = F .reads in
+      let w = A .within in
+      let v = A .after in
+      let h : places-read f m t ≡ suc (b - a) =
+      read-from-to f m t a b (omega arith) (omega arith) w (λ i u r. B .between i u (omega arith)) (A .nearest) (B .there) (λ _. (v, A .known)) in
+      omega arith
+  reads (inr A) =
+      let l = B .before in
+      let p = B .reads in
+      let q = F .reads in
+      let e = A .1 in
+      let h : places-read f m t ≡ suc (m - a) =
+      read-from-to f m t a m (omega arith) inside (omega arith) (λ i u r. B .between i u (omega arith)) (λ i u r. A .0 i u (omega arith)) (B .there)
+      (λ l. absurd (let z : ⊥ = omega arith in z)) in
+      omega arith
+
+  pub outwards : Outwards f m t (record { level = eqb x y && ltb x none; before = a; after = b; reads = back .reads + forth .reads })
+  outwards = record { answer = answer before after; before = before; after = after; reads = reads after }
