@@ -1,6 +1,7 @@
 //! What is measured: each does to the same buffers what its name says.
 
 use crate::plain;
+use crate::timing::Take;
 use crate::workload::Workload;
 use oracle::{reading, Buffers};
 use std::hint::black_box;
@@ -42,18 +43,19 @@ impl Contender {
             Contender::Floor => "(c) the floor, each cell written once",
         }
     }
+}
 
-    /// How many samples are taken of it: the direct reading takes seconds.
-    pub fn samples(self, samples: usize) -> usize {
+impl Take for Contender {
+    /// The direct reading takes seconds.
+    fn samples(&self, wanted: usize) -> usize {
         match self {
             Contender::Sums => 3,
-            Contender::Walk => samples.min(7),
-            _ => samples,
+            Contender::Walk => wanted.min(7),
+            _ => wanted,
         }
     }
 
-    /// One take of the workload's message; gives how many verdicts stand.
-    pub fn take(self, workload: &mut Workload) -> usize {
+    fn take(&self, workload: &mut Workload) -> usize {
         let Workload { policy, encoded, message, buffers } = workload;
         match self {
             Contender::Monitor => {

@@ -16,7 +16,7 @@ pub fn points(shapes: &[(usize, Shape)], record: Record, samples: usize) -> Vec<
     let mut times = vec![f64::INFINITY; shapes.len()];
     for _ in 0..samples {
         for (workload, least) in workloads.iter_mut().zip(&mut times) {
-            *least = least.min(Spread::of(in_turns(&[Contender::Monitor], workload, 1).remove(0)).least());
+            *least = least.min(Spread::of(in_turns(&[&Contender::Monitor], workload, 1).remove(0)).least());
         }
     }
     shapes.iter().zip(times).map(|((size, _), time)| Point { size: *size, time }).collect()

@@ -1,11 +1,12 @@
 //! Measures a take of the monitor beside three others: the same algorithm in safe Rust, the direct reading of the definition,
 //! and the floor, which only writes each cell of both sheets once; and a packet beside the takes of its messages. The record is full, and
-//! for a take also empty and known in bunches.
+//! for a take also empty and known in bunches. And the takes of two archives beside each other.
 
 pub mod contender;
 pub mod growth;
 pub mod instructions;
 pub mod packet;
+pub mod placed;
 pub mod plain;
 pub mod timing;
 pub mod workload;

@@ -1,11 +1,13 @@
-//! Prints what a take and a packet cost: `bench`. `bench packet COUNT` prints a packet of that many messages alone, and `bench take NAME
-//! COUNT` only makes the takes, with a full record or with that of a third word: `full`, `empty` or `bunched`.
+//! Prints what a take and a packet cost: `bench`. `bench packet COUNT` prints a packet of that many messages alone, `bench take NAME
+//! COUNT` only makes the takes, with a full record or with that of a third word: `full`, `empty` or `bunched`, and `bench placed OLD..
+//! NEW..` compares the takes of two archives, each linked at the same places.
 
 use bench::contender::{Contender, ALL};
 use bench::growth::{added, points, slope};
 use bench::instructions;
 use bench::packet;
-use bench::timing::{in_turns, ratios, Spread};
+use bench::placed::Placed;
+use bench::timing::{in_turns, ratios, Spread, Take};
 use bench::workload::{Record, Shape, Workload, LARGEST};
 use std::env::args;
 
@@ -14,6 +16,8 @@ const SAMPLES: usize = 201;
 const GROWTH_SAMPLES: usize = 1_001;
 /// How many messages the packet has.
 const PACKET: usize = 64;
+/// Bytes from one of the places at which an archive is linked to the next.
+const PLACE: usize = 16;
 /// The minutes of a trace with which the growth is measured.
 const MINUTES: [usize; 5] = [64, 128, 256, 512, 1024];
 const MICRO: f64 = 1e6;
@@ -27,7 +31,8 @@ fn main() {
         ["take", name, count] => takes(name, count.parse().expect("a count"), Record::Full.name()),
         ["take", name, count, record] => takes(name, count.parse().expect("a count"), record),
         ["packet", count] => packets(count.parse().expect("a count")),
-        _ => panic!("usage: bench [take NAME COUNT [RECORD] | packet COUNT]"),
+        ["placed", ref libraries @ ..] if libraries.len() % 2 == 0 => placed(libraries),
+        _ => panic!("usage: bench [take NAME COUNT [RECORD] | packet COUNT | placed OLD.. NEW..]"),
     }
 }
 
@@ -62,12 +67,44 @@ fn compare(record: Record, contenders: &[Contender]) {
     let Shape { propositions, components, minutes, subformulas, .. } = LARGEST;
     let name = record.name();
     println!("A take: {propositions} propositions, {components} components, {minutes} minutes, {subformulas} subformulas, {name} record\n");
-    let times = in_turns(contenders, &mut Workload::new(&LARGEST, record), SAMPLES);
+    let measured: Vec<&dyn Take> = contenders.iter().map(|contender| contender as &dyn Take).collect();
+    let times = in_turns(&measured, &mut Workload::new(&LARGEST, record), SAMPLES);
     heading("monitor");
     for (contender, of_it) in contenders.iter().zip(&times) {
         row(contender.describe(), of_it, &times[0]);
     }
     println!();
+}
+
+/// The takes of two archives at each place, with each record, beside those in safe Rust: first those of the whole policy, and then under one
+/// line, where the record's check and the time points are most of a take.
+fn placed(libraries: &[&str]) {
+    let archives: Vec<Placed> = libraries.iter().map(|path| Placed::load(path)).collect();
+    let mut measured: Vec<&dyn Take> = vec![&Contender::Plain];
+    measured.extend(archives.iter().map(|archive| archive as &dyn Take));
+    for shape in [LARGEST, Shape { subformulas: 1, rules: 1, ..LARGEST }] {
+        for record in Record::ALL {
+            let Shape { minutes, subformulas, .. } = shape;
+            println!("A take: {minutes} minutes, {subformulas} subformulas, {} record", record.name());
+            let times = in_turns(&measured, &mut Workload::new(&shape, record), SAMPLES);
+            let (old, new) = times[1..].split_at(libraries.len() / 2);
+            for (place, (old, new)) in old.iter().zip(new).enumerate() {
+                place_row(place * PLACE, old, new, &times[0]);
+            }
+            println!();
+        }
+    }
+}
+
+/// One place: the least times, each archive's over safe Rust, and the new one's over the old one's.
+fn place_row(place: usize, old: &[f64], new: &[f64], plain: &[f64]) {
+    let [before, after] = [old, new].map(|times| Spread::of(times.to_vec()).least() * MICRO);
+    let [of_old, of_new] = [old, new].map(|times| three_digits(ratios(times, plain).median()));
+    let ratio = ratios(new, old);
+    let [middle, low, high] = [ratio.median(), ratio.quantile(0.25), ratio.quantile(0.75)].map(three_digits);
+    println!(
+        "at {place:>2}: least {before:.1} and {after:.1} µs, over safe Rust {of_old} and {of_new}, new / old {middle} ({low} to {high})"
+    );
 }
 
 /// A packet beside the takes of its messages.

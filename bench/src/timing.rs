@@ -1,8 +1,18 @@
 //! Times of takes, taken in turns, so that a slow stretch of the machine falls on all that is compared.
 
-use crate::contender::Contender;
 use crate::workload::Workload;
 use std::time::Instant;
+
+/// What is measured: it takes the workload's message.
+pub trait Take {
+    /// One take; gives how many verdicts stand.
+    fn take(&self, workload: &mut Workload) -> usize;
+
+    /// How many samples are taken of it, where so many are wanted.
+    fn samples(&self, wanted: usize) -> usize {
+        wanted
+    }
+}
 
 /// A sample runs at least so many seconds.
 const SAMPLE: f64 = 0.001;
@@ -42,28 +52,28 @@ impl Spread {
 }
 
 /// Seconds for one take, as the mean of so many.
-fn sample(contender: Contender, workload: &mut Workload, takes: usize) -> f64 {
+fn sample(measured: &dyn Take, workload: &mut Workload, takes: usize) -> f64 {
     let start = Instant::now();
     for _ in 0..takes {
-        std::hint::black_box(contender.take(workload));
+        std::hint::black_box(measured.take(workload));
     }
     start.elapsed().as_secs_f64() / takes as f64
 }
 
 /// How many takes make a sample long enough.
-fn takes_for(contender: Contender, workload: &mut Workload) -> usize {
-    let once = sample(contender, workload, 1);
+fn takes_for(measured: &dyn Take, workload: &mut Workload) -> usize {
+    let once = sample(measured, workload, 1);
     (SAMPLE / once).ceil().max(1.0) as usize
 }
 
-/// Seconds of a take, for each contender in turn and so many times over; the rounds of one are those of the other.
-pub fn in_turns(contenders: &[Contender], workload: &mut Workload, samples: usize) -> Vec<Vec<f64>> {
-    let takes: Vec<usize> = contenders.iter().map(|&contender| takes_for(contender, workload)).collect();
-    let mut times = vec![Vec::new(); contenders.len()];
+/// Seconds of a take, for each that is measured in turn and so many times over; the rounds of one are those of the other.
+pub fn in_turns(measured: &[&dyn Take], workload: &mut Workload, samples: usize) -> Vec<Vec<f64>> {
+    let takes: Vec<usize> = measured.iter().map(|&one| takes_for(one, workload)).collect();
+    let mut times = vec![Vec::new(); measured.len()];
     for round in 0..samples {
-        for (i, &contender) in contenders.iter().enumerate() {
-            if round < contender.samples(samples) {
-                times[i].push(sample(contender, workload, takes[i]));
+        for (i, &one) in measured.iter().enumerate() {
+            if round < one.samples(samples) {
+                times[i].push(sample(one, workload, takes[i]));
             }
         }
     }
