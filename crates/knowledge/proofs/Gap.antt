@@ -5,7 +5,7 @@ use mathlib.Core.Path.{_≡_, refl, sym, ap, subst, _∙_}
 use mathlib.Core.Bool.{Bool, true, false}
 use mathlib.Core.Logic.{_⊎_, ⊎-elim}
 use Prim.Native.Nat.{ℕ, suc, _+_, _-_, _≤_, _<_}
-use native.Mathlib.Decide.{ℕ-discrete}
+use native.Mathlib.Decide.{decLt, ℕ-discrete}
 use native.Mathlib.Omega.{arith}
 use borrow.Author.Tests.{eq-eqb, ne-eqb}
 use Rattle.decide.specs.Laws.{is-false, fails}
@@ -92,7 +92,7 @@ module _ (f : ℕ → ℕ) (m p q : ℕ) (k : f p < none) (N : Next f (suc m) (p
       record { after = to; within = omega arith; known = N .there there; nearest = λ i l u. N .between i (omega arith) u }
 
   -- after the last known place nothing is told
-  pub after-last : (t : ℕ) → p ≤ t → t < m → q ≡ suc m → told f m t ≡ unknown
+  after-last : (t : ℕ) → p ≤ t → t < m → q ≡ suc m → told f m t ≡ unknown
   after-last t from w e =
       let last : None-after f m t = λ i l u. N .between i (omega arith) (omega arith) in
       told-none f m t (λ (B : Rises f t). let x = last (suc t) (omega arith) (omega arith) in let y = B .after in omega arith) (level-after f m t last)
@@ -130,7 +130,7 @@ module _ (f : ℕ → ℕ) (m p q : ℕ) (k : f p < none) (N : Next f (suc m) (p
       wide h d = told-none f m t (λ (B : Rises f t). d (own-gap B)) (λ (Q : Level f m t). h (flat t from to Q))
 
       -- what the gap's first minute is told by the search from it, each minute of the gap is
-      pub in-gap : gap (level f m p) (q - p) ≡ told f m t
+      in-gap : gap (level f m p) (q - p) ≡ told f m t
       unfolding gap
       in-gap = go (level f m p) refl (ℕ-discrete (q - p) 1)
         where
@@ -141,3 +141,16 @@ module _ (f : ℕ → ℕ) (m p q : ℕ) (k : f p < none) (N : Next f (suc m) (p
           go true e d = sym (even (flat p (omega arith) first (level-decides f m p .sound e)))
           go false e (yes d) = rw (eq-eqb (q - p) 1 d) (sym (one (λ z. fails (level-decides f m p) e (quiet p (omega arith) first z)) d))
           go false e (no d) = rw (ne-eqb (q - p) 1 d) (sym (wide (λ z. fails (level-decides f m p) e (quiet p (omega arith) first z)) d))
+
+  -- and where no known place follows, each of the minutes that are left
+  pub each-minute : Steady f (suc m) → (t : ℕ) → p ≤ t → t < q → t < m → gap (level f m p) (q - p) ≡ told f m t
+  unfolding gap
+  each-minute S t from to inside = go (decLt q (suc m))
+    where
+      go : Dec (q < suc m) → gap (level f m p) (q - p) ≡ told f m t
+      go (yes there) = in-gap S there t from to
+      go (no past) =
+          let w = N .within in
+          let open-end : level f m p ≡ false =
+          is-false (level-decides f m p) (level-after f m p (λ i l u. N .between i (omega arith) (omega arith))) in
+          rw (open-end, ne-eqb (q - p) 1 (λ e. omega arith)) (sym (after-last t from inside (omega arith)))

@@ -1,6 +1,6 @@
 -- What reading back and reading forth from a minute find, taken together, is what the search outwards from it gives.
 -- Assumes nothing.
-use mathlib.Core.Path.{_≡_, sym, subst, _∙_}
+use mathlib.Core.Path.{_≡_, refl, sym, subst, _∙_}
 use mathlib.Core.Logic.{_⊎_, inl, inr, ⊎-elim}
 use mathlib.Core.Bool.{_&&_}
 use Prim.Native.Nat.{ℕ, suc, _+_, _-_, _≤_, _<_}
@@ -15,6 +15,51 @@ use Rattle.knowledge.specs.Run.{Back, Forth, Previous}
 use Rattle.knowledge.specs.Runs.{level-decides}
 use Rattle.knowledge.specs.Outwards.{Nearest-before, Nearest-after, None-before, None-after, places-read, Never-falls, Outwards}
 use Rattle.knowledge.specs.Nearest.{read-from-to, level-before, level-after, level-nearest}
+
+-- none of the places from `from` to before i is known
+abbrev pub Unknown : (ℕ → ℕ) → ℕ → ℕ → Type 0
+Unknown f from i = (j : ℕ) → from ≤ j → j < i → none ≤ f j
+
+-- nor is the next one
+pub one-longer : (f : ℕ → ℕ) (from i k : ℕ) → Unknown f from i → none ≤ f i → k ≡ i + 1 → Unknown f from k
+one-longer f from i k u h e j l w =
+    let le : j ≤ i = omega arith in
+    ⊎-elim (λ (s : j ≡ i). subst (λ (p : ℕ). none ≤ f p) (sym s) h) (λ (v : j < i). u j l v) (eq-or-lt-of-le le)
+
+-- what reading forth finds: the first known number, or none; and one place more that is not known, read before the others
+module _ (f : ℕ → ℕ) (n from : ℕ) where
+  pub found-at : (i k : ℕ) → from ≤ i → i < n → Unknown f from i → f i < none → from + k ≡ suc i
+      → Forth f n from (record { place = i; number = f i; reads = k })
+  found-at i k past within u known e = record {
+    place = record { past = past; within = omega arith; between = u; there = λ _. known };
+    number = λ _. refl;
+    nothing = λ l. absurd (let z : ⊥ = omega arith in z);
+    reads = omega arith;
+  }
+
+  pub found-none : (k : ℕ) → from ≤ n → Unknown f from n → from + k ≡ n → Forth f n from (record { place = n; number = none; reads = k })
+  found-none k past u e = record {
+    place = record { past = past; within = omega arith; between = u; there = λ l. absurd (let z : ⊥ = omega arith in z) };
+    number = λ l. absurd (let z : ⊥ = omega arith in z);
+    nothing = λ _. refl;
+    reads = omega arith;
+  }
+
+  pub found-past : (r : Found) → from < n → none ≤ f from → Forth f n (from + 1) r
+      → Forth f n from (record { place = r .place; number = r .number; reads = 1 + r .reads })
+  found-past r within h F =
+      let past = F .place .past in
+      let counted = F .reads in
+      record {
+        place = record { past = omega arith; within = F .place .within; between = between; there = F .place .there };
+        number = F .number;
+        nothing = F .nothing;
+        reads = omega arith;
+      }
+    where
+      between : Unknown f from (r .place)
+      between j l w =
+          ⊎-elim (λ (s : from ≡ j). subst (λ (p : ℕ). none ≤ f p) s h) (λ (v : from < j). F .place .between j (omega arith) w) (eq-or-lt-of-le l)
 
 -- where the first place is known, so is the one that is found
 pub known-before : (f : ℕ → ℕ) (place : ℕ) (r : Found) → f 0 < none → Back f place r → Previous f place (r .place)

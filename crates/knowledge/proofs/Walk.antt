@@ -50,41 +50,7 @@ module _ (f : ℕ → ℕ) (n p q : ℕ) (W : Walked f p) (N : Next f n (p + 1) 
   pub fail : q < n → (Follow (f p) (f q) (q - p) → ⊥) → Steady f n → ⊥
   fail l h s = let past = N .past in h (s .pairs q l p (omega arith) (W .known) (N .there l))
 
--- the walk has come to q, and p is the last known place before it
-pub record Come (f : ℕ → ℕ) (n p q : ℕ) : Type 0 where
-  pub walked : Walked f p
-  pub behind : p < q
-  pub within : q ≤ n
-  pub between : (i : ℕ) → p < i → i < q → none ≤ f i
-
-module _ (f : ℕ → ℕ) (n p q : ℕ) (C : Come f n p q) where
-  ahead : (q < n → f q < none) → Next f n (p + 1) q
-  ahead h = record { past = omega (arith, C .behind); within = C .within; between = λ i a b. C .between i (omega arith) b; there = h }
-
-  -- q is known, and it follows p
-  pub come-known : q < n → f q < none → Follow (f p) (f q) (q - p) → Come f n q (q + 1)
-  come-known l k g =
-      record {
-        walked = step f n p q (C .walked) (ahead (λ _. k)) l g;
-        behind = omega arith;
-        within = omega arith;
-        between = λ i a b. absurd (let z : ⊥ = omega arith in z);
-      }
-
-  -- q is not known
-  pub come-unknown : q < n → none ≤ f q → Come f n p (q + 1)
-  come-unknown l k =
-      record {
-        walked = C .walked;
-        behind = omega (arith, C .behind);
-        within = omega arith;
-        between = λ i a b.
-            let le : i ≤ q = omega arith in
-            ⊎-elim (λ (e : i ≡ q). subst (λ (j : ℕ). none ≤ f j) (sym e) k) (λ (w : i < q). C .between i a w) (eq-or-lt-of-le le);
-      }
-
-  pub come-end : q ≡ n → Steady f n
-  come-end e = finish f n p q (C .walked) (ahead (λ l. absurd (let z : ⊥ = omega arith in z))) e
-
-  pub come-fail : q < n → f q < none → (Follow (f p) (f q) (q - p) → ⊥) → Steady f n → ⊥
-  come-fail l k h = fail f n p q (C .walked) (ahead (λ _. k)) l h
+-- at the last place, or at the end, the walk is over
+pub ended : (f : ℕ → ℕ) (n p : ℕ) → p ≤ n → n ≤ suc p → (p < n → Walked f p) → (n ≤ p → Steady f n) → Steady f n
+ended f n p l u on over =
+    ⊎-elim (λ (h : p < n). subst (Steady f) (let e : suc p ≡ n = omega arith in e) (on h .steady)) over (lt-or-le p n)

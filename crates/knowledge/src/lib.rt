@@ -2,7 +2,7 @@
 use message::Event;
 use policy::Sizes;
 ghost use mathlib.Core.Path.{_≡_};
-ghost use Prim.Native.Nat.{ℕ, suc, _+_, _-_, _*_, _^_, _≤_, _<_};
+ghost use Prim.Native.Nat.{ℕ, suc, _+_, _-_, _*_, _^_, _≤_, _<_, min};
 ghost use mathlib.Core.Bool.{cond, _&&_};
 ghost use lib.Bits.{bitOr};
 ghost use lib.ListN.{length, getD, set};
@@ -30,21 +30,44 @@ struct Found {
     reads: usize,
 }
 
-// Reads forth from `from` to the first known number, or to the run's end.
-fn next_known(run: &[u16], from: usize) -> Found
+// Reads forth from `from` to the first known number, or to the run's end. It reads two places a turn: a turn of one is so short that it takes
+// one cycle or two, by where it is linked.
+fn skip_unknown(run: &[u16], from: usize) -> Found
     requires { ⌜ from ≤ length (now run) ⌝ }
     ensures { λ r. ⌜ Forth (cell (now (run .entry))) (length (now (run .entry))) from r ⌝ }
 {
     let left = run.len() - from;
     let mut reads: usize = 0;
-    while reads < left {
+    while reads + 1 < left {
         let i = from + reads;
-        let w = run[i];
+        let first = run[i];
         reads += 1;
-        if w < NONE {
+        if first < NONE {
             return Found {
                 place: i,
-                number: w,
+                number: first,
+                reads,
+            };
+        }
+        let j = from + reads;
+        let second = run[j];
+        reads += 1;
+        if second < NONE {
+            return Found {
+                place: j,
+                number: second,
+                reads,
+            };
+        }
+    }
+    if reads < left {
+        let i = from + reads;
+        let last = run[i];
+        reads += 1;
+        if last < NONE {
+            return Found {
+                place: i,
+                number: last,
                 reads,
             };
         }
@@ -52,6 +75,35 @@ fn next_known(run: &[u16], from: usize) -> Found
     Found {
         place: run.len(),
         number: NONE,
+        reads,
+    }
+}
+
+// The same: the first place by itself, since in a bunch it is known and no loop is needed, and then the rest.
+fn next_known(run: &[u16], from: usize) -> Found
+    requires { ⌜ from ≤ length (now run) ⌝ }
+    ensures { λ r. ⌜ Forth (cell (now (run .entry))) (length (now (run .entry))) from r ⌝ }
+{
+    if from == run.len() {
+        return Found {
+            place: from,
+            number: NONE,
+            reads: 0,
+        };
+    }
+    let w = run[from];
+    if w < NONE {
+        return Found {
+            place: from,
+            number: w,
+            reads: 1,
+        };
+    }
+    let rest = skip_unknown(run, from + 1);
+    let reads = 1 + rest.reads;
+    Found {
+        place: rest.place,
+        number: rest.number,
         reads,
     }
 }
@@ -100,10 +152,11 @@ pub fn search_outwards(run: &[u16], minute: usize) -> Search
     let back = previous_known(run, from);
     let forth = next_known(run, from);
     let v = back.number;
+    let w = forth.number;
     let behind = back.reads;
     let reads = behind + forth.reads;
     Search {
-        level: (v == forth.number) & (v < NONE),
+        level: (v == w) & (v < NONE),
         before: back.place,
         after: forth.place,
         reads,
@@ -121,7 +174,7 @@ fn follows(v: u16, w: u16, d: usize) -> bool
     w as usize <= v as usize + d
 }
 
-// Is the run steady? What holds of neighbours among its known places holds of any two.
+// Is the run steady? What holds of neighbours among its known places holds of any two: p is a known place, or the run's end, and v its number.
 fn is_steady(run: &[u16]) -> bool
     requires { ⌜ (0 < length (now run)) × (length (now run) ≤ suc most-minutes) ⌝ }
     ensures { λ r. ⌜ r ≡ steady (cell (now (run .entry))) (length (now (run .entry))) ⌝ }
@@ -131,17 +184,17 @@ fn is_steady(run: &[u16]) -> bool
     }
     let mut p: usize = 0;
     let mut v: u16 = 0;
-    let mut q: usize = 1;
-    while q < run.len() {
-        let w = run[q];
-        if w < NONE {
+    while p + 1 < run.len() {
+        let found = next_known(run, p + 1);
+        let q = found.place;
+        let w = found.number;
+        if q < run.len() {
             if !follows(v, w, q - p) {
                 return false;
             }
-            p = q;
-            v = w;
         }
-        q += 1;
+        p = q;
+        v = w;
     }
     true
 }
@@ -219,12 +272,25 @@ fn join(row: &mut [u8; MOST_MINUTES], lo: usize, hi: usize, code: u8)
     }
 }
 
-// Joins the cells of a gap with what the search from its first minute tells of each of them. Most gaps of a full record are one minute long
-// and need no loop.
-fn join_gap(row: &mut [u8; MOST_MINUTES], found: Search)
-    requires { ⌜ (found .before < found .after) × (found .after ≤ most-minutes) × (length (now row) ≡ most-minutes) ⌝ }
-    ensures { λ _. ⌜ Over (joined (now (row .entry)) (λ _. gap (found .level) (found .after - found .before))) (found .before) (found .after)
-        (now (row .entry)) (now (row .exit)) ⌝ }
+// The smaller of two.
+fn smaller(x: usize, y: usize) -> usize
+    ensures { λ r. ⌜ r ≡ min x y ⌝ }
+{
+    if x < y {
+        return x;
+    }
+    y
+}
+
+// Joins the cells of a gap, as far as there are minutes, with what the search from its first minute tells of each of them. Most gaps of a full
+// record are one minute long and need no loop.
+fn join_gap(row: &mut [u8; MOST_MINUTES], found: Search, minutes: usize)
+    requires { ⌜ (found .before < found .after)
+        × (found .before < minutes)
+        × (minutes ≤ most-minutes)
+        × (length (now row) ≡ most-minutes) ⌝ }
+    ensures { λ _. ⌜ Over (joined (now (row .entry)) (λ _. gap (found .level) (found .after - found .before))) (found .before)
+        (min (found .after) minutes) (now (row .entry)) (now (row .exit)) ⌝ }
 {
     let lo = found.before;
     let hi = found.after;
@@ -232,7 +298,7 @@ fn join_gap(row: &mut [u8; MOST_MINUTES], found: Search)
         row[lo] = merge_step(row[lo], found.level);
         return;
     }
-    join(row, lo, hi, gap_code(found.level));
+    join(row, lo, smaller(hi, minutes), gap_code(found.level));
 }
 
 // Joins a row with what the run tells of each minute: one search for each gap, from its first minute, so that no place is read more than
@@ -245,12 +311,13 @@ fn join_run(row: &mut [u8; MOST_MINUTES], run: &[u16])
     ensures { λ _. ⌜ ((m : ℕ) → suc m ≡ length (now (run .entry))
         → Over (joined (now (row .entry)) (told (cell (now (run .entry))) m)) 0 m (now (row .entry)) (now (row .exit))) ⌝ }
 {
-    let mut found = search_outwards(run, 0);
-    while found.after < run.len() {
-        join_gap(row, found);
-        found = search_outwards(run, found.after);
+    let minutes = run.len() - 1;
+    let mut minute: usize = 0;
+    while minute < minutes {
+        let found = search_outwards(run, minute);
+        join_gap(row, found, minutes);
+        minute = found.after;
     }
-    join(row, found.before, run.len() - 1, 0);
 }
 
 // Is every component's run steady?

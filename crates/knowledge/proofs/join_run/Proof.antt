@@ -1,113 +1,102 @@
--- `knowledge::join_run` meets its contract. The loop's invariant: the search was from the first minute of a gap, and the row is joined with what the
--- run tells of the minutes before it. The measure is how many places follow the gap. Assumes nothing.
+-- `knowledge::join_run` meets its contract. The loop's invariant: the minute is the first of a gap, or the minutes are through, and the row is joined
+-- with what the run tells of those before it. The measure is how many minutes are left. Assumes nothing.
 use mathlib.Core.Path.{_≡_, sym, ap, subst, _∙_}
-use Prim.Native.Nat.{ℕ, suc, _-_, _<_}
+use Prim.Native.Nat.{ℕ, suc, _-_, _≤_, _<_, min}
 use native.Mathlib.Omega.{arith}
 use denote.Ref.{now}
 use lib.ListN.{length}
-use Rattle.kleene.specs.Truth.{unknown}
 use Rattle.rows.specs.Over.{Over}
 use Rattle.rows.specs.Laws.{untouched}
-use Rattle.knowledge.specs.Knowledge.{most-minutes, level}
+use Rattle.knowledge.specs.Knowledge.{none, most-minutes}
 use Rattle.knowledge.specs.Run.{cell, joined, told, gap}
-use Rattle.knowledge.proofs.Gap.{Found-gap, found-gap, in-gap, after-last}
+use Rattle.knowledge.proofs.Gap.{found-gap, each-minute}
 use Rattle.knowledge.proofs.Points.{stretch}
 use Rattle.knowledge.proofs.join_run.Statement.{statement}
 use Rattle.knowledge.proofs.join_run.Tie as tie
 
 abbrev Inv-loop : tie.InvT-loop
-Inv-loop row₀ run found₀ row found =
-    (length row ≡ most-minutes) × Found-gap (cell run) (length run) found
-    × ((m : ℕ) → suc m ≡ length run → Over (joined row₀ (told (cell run) m)) 0 (found .before) row₀ row)
+Inv-loop row₀ run minutes minute₀ row minute =
+    (length row ≡ most-minutes) × (suc minutes ≡ length run) × (minute ≤ minutes → cell run minute < none)
+    × Over (joined row₀ (told (cell run) minutes)) 0 (min minute minutes) row₀ row
 
 abbrev μ-loop : tie.MeasureT-loop
-μ-loop row₀ run found₀ row found = length run - found .after
+μ-loop row₀ run minutes minute₀ row minute = minutes - minute
+
+sub-minutes : tie.Need-sub-minutes Inv-loop μ-loop
+sub-minutes c = omega arith
+
+loop-holds : tie.Need-loop-holds Inv-loop μ-loop
+loop-holds c =
+    let s = c .before in
+    let run = now (s .args .run) in
+    let row = now (s .args .row) in
+    let m = length run - 1 in
+    let first = s .pre .2 .first in (
+      s .pre .3,
+      omega arith,
+      λ _. omega arith,
+      subst (λ (n : ℕ). Over (joined row (told (cell run) m)) 0 n row row) (let z : 0 ≡ min 0 m = omega arith in z) (untouched _ 0 row),
+    )
 
 search-outwards-requires : tie.Need-search-outwards-requires Inv-loop μ-loop
 search-outwards-requires c κs = omega arith
 
-loop-holds : tie.Need-loop-holds Inv-loop μ-loop
-loop-holds c =
-    let s = c .before .before in
-    let f = cell (now (s .args .run)) in
-    let first = s .pre .2 .first in
-    let r = c .search-outwards in
-    let g = found-gap f (length (now (s .args .run))) 0 (r .result) (s .pre .2) (omega arith) (omega arith) (r .ensures) in (
-      s .pre .3,
-      g .1,
-      λ m e.
-          subst (λ (n : ℕ). Over (joined (now (s .args .row)) (told f m)) 0 n (now (s .args .row)) (now (s .args .row))) (sym (g .0))
-          (untouched (joined (now (s .args .row)) (told f m)) 0 (now (s .args .row))),
-    )
-
 join-gap-requires : tie.Need-join-gap-requires Inv-loop μ-loop
 join-gap-requires c κs =
-    let v = c .before .before .before .loop .inv in
-    let past = v .1 .ends .past in
-    (omega arith, omega arith, v .0)
-
-search-outwards-requires-2 : tie.Need-search-outwards-requires-2 Inv-loop μ-loop
-search-outwards-requires-2 c κs = omega arith
+    let s = c .before .before .before .before .before in
+    let l = c .before .before .before .loop in
+    let r = c .before .search-outwards in
+    let g = found-gap _ _ (l .minute) (r .result) (s .pre .2) (omega arith) (l .inv .2 (omega arith)) (r .ensures) in
+    let at = g .0 in
+    let past = g .1 .ends .past in
+    (omega arith, omega arith, omega arith, l .inv .0)
 
 loop-less : tie.Need-loop-less Inv-loop μ-loop
 loop-less c =
-    let s = c .before .before .before .before .before .before .before .before in
-    let f = cell (now (s .args .run)) in
-    let l = c .before .before .before .before .before .loop in
-    let r = c .search-outwards2 in
-    let there : l .found .after < length (now (s .args .run)) = omega arith in
-    let g = found-gap f (length (now (s .args .run))) (l .found .after) (r .result) (s .pre .2) there (l .inv .1 .ends .there there) (r .ensures) in
+    let s = c .before .before .before .before .before .before in
+    let l = c .before .before .before .before .loop in
+    let r = c .before .before .search-outwards in
+    let g = found-gap _ _ (l .minute) (r .result) (s .pre .2) (omega arith) (l .inv .2 (omega arith)) (r .ensures) in
     let at = g .0 in
     let past = g .1 .ends .past in
     omega arith
 
 loop-again : tie.Need-loop-again Inv-loop μ-loop
 loop-again c =
-    let s = c .before .before .before .before .before .before .before .before in
+    let s = c .before .before .before .before .before .before in
     let f = cell (now (s .args .run)) in
+    let m = length (now (s .args .run)) - 1 in
     let old = now (s .args .row) in
-    let l = c .before .before .before .before .before .loop in
-    let found = l .found in
+    let l = c .before .before .before .before .loop in
     let v = l .inv in
-    let r = c .search-outwards2 in
-    let there : found .after < length (now (s .args .run)) = omega arith in
-    let past = v .1 .ends .past in
-    let over = c .before .join-gap .ensures in
-    let g = found-gap f (length (now (s .args .run))) (found .after) (r .result) (s .pre .2) there (v .1 .ends .there there) (r .ensures) in (
+    let r = c .before .before .search-outwards in
+    let found = r .result in
+    let over = c .join-gap .ensures in
+    let g = found-gap f _ (l .minute) found (s .pre .2) (omega arith) (v .2 (omega arith)) (r .ensures) in
+    let at = g .0 in
+    let past = g .1 .ends .past in
+    let here : min (l .minute) m ≡ found .before = omega arith in (
       over .long ∙ v .0,
-      g .1,
-      λ m e.
-          subst (λ (n : ℕ). Over (joined old (told f m)) 0 n old (c .before .join-gap .last .0)) (sym (g .0))
-          (stretch f m (found .before) (found .after) old (l .row) _ (gap (found .level) (found .after - found .before)) (v .2 m e) over (omega arith)
+      v .1,
+      λ w. g .1 .ends .there (omega arith),
+      stretch f m (found .before) (min (found .after) m) old (l .row) _ (gap (found .level) (found .after - found .before))
+          (subst (λ (n : ℕ). Over (joined old (told f m)) 0 n old (l .row)) here (v .3)) over (omega arith)
           (λ t from to.
-          ap (λ b. gap b (found .after - found .before)) (v .1 .answer m e)
-          ∙ in-gap f m (found .before) (found .after) (v .1 .known) (rw e (v .1 .ends)) (rw e (s .pre .2)) (rw e there) t from to)),
+          ap (λ b. gap b (found .after - found .before)) (g .1 .answer m (v .1))
+          ∙ each-minute f m (found .before) (found .after) (g .1 .known) (rw (v .1) (g .1 .ends)) (rw (v .1) (s .pre .2)) t from (omega arith) (omega arith)),
     )
-
-sub-join : tie.Need-sub-join Inv-loop μ-loop
-sub-join c = omega arith
-
-join-requires : tie.Need-join-requires Inv-loop μ-loop
-join-requires c κs =
-    let v = c .before .before .before .loop .inv in
-    let past = v .1 .ends .past in
-    let within = v .1 .ends .within in
-    (omega arith, omega arith, v .0)
 
 returns : tie.Need-returns Inv-loop μ-loop
 returns c m e =
-    let s = c .before .before .before .before .before .before .before in
-    let f = cell (now (s .args .run)) in
-    let old = now (s .args .row) in
-    let l = c .before .before .before .before .loop in
-    let found = l .found in
+    let s = c .before .before .before in
+    let run = now (s .args .run) in
+    let row = now (s .args .row) in
+    let l = c .before .loop in
     let v = l .inv in
-    let past = v .1 .ends .past in
-    let within = v .1 .ends .within in
-    let last : length (now (s .args .run)) - 1 ≡ m = omega arith in
-    subst (λ (n : ℕ). Over (joined old (told f m)) 0 n old (c .join .last .0)) last
-    (stretch f m (found .before) (length (now (s .args .run)) - 1) old (l .row) _ unknown (v .2 m e) (c .join .ensures) (omega arith)
-    (λ t from to. sym (after-last f m (found .before) (found .after) (v .1 .known) (rw e (v .1 .ends)) t from (omega arith) (omega arith))))
+    let same : length run - 1 ≡ m = omega arith in
+    let all : min (l .minute) m ≡ m = omega arith in
+    subst (λ (n : ℕ). Over (joined row (told (cell run) m)) 0 n row (l .row)) all
+    (subst (λ (k : ℕ). Over (joined row (told (cell run) k)) 0 (min (l .minute) k) row (l .row)) same (v .3))
 
 pub join-run-spec : {M : Type 1} → statement M
 join-run-spec =
@@ -115,12 +104,10 @@ join-run-spec =
     (tie.spec
     Inv-loop
     μ-loop
-    search-outwards-requires
+    sub-minutes
     loop-holds
+    search-outwards-requires
     join-gap-requires
-    search-outwards-requires-2
     loop-less
     loop-again
-    sub-join
-    join-requires
     returns)

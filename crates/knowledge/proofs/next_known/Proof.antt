@@ -1,94 +1,50 @@
--- `knowledge::next_known` meets its contract. The loop's invariant: of the places from `from` on the first so many are read, and none of them is
--- known. The measure is how many are left. Assumes nothing.
-use mathlib.Core.Path.{_≡_, refl, sym, subst}
-use mathlib.Core.Logic.{⊎-elim}
-use Prim.Native.Nat.{ℕ, _+_, _-_, _≤_, _<_}
-use native.Mathlib.Nat.{eq-or-lt-of-le}
+-- `knowledge::next_known` meets its contract: the first place by itself, and the rest by `skip_unknown`. Assumes nothing.
+use Prim.Native.Nat.{ℕ, _+_}
 use native.Mathlib.Omega.{arith}
 use denote.Ref.{now}
 use lib.ListN.{length}
-use Rattle.knowledge.specs.Knowledge.{none}
 use Rattle.knowledge.specs.Run.{cell}
+use Rattle.knowledge.proofs.Searching.{found-past}
 use borrow.Author.Needs.{needs}
 use Rattle.knowledge.proofs.next_known.Statement.{statement}
 use Rattle.knowledge.proofs.next_known.Tie as tie
 
-abbrev Inv-loop : tie.InvT-loop
-Inv-loop run from left reads₀ reads = (reads ≤ left) × (from + left ≡ length run) × ((j : ℕ) → j < from + reads → from ≤ j → none ≤ cell run j)
+returns : tie.Need-returns
+returns c = search needs
 
-abbrev μ-loop : tie.MeasureT-loop
-μ-loop run from left reads₀ reads = left - reads
-
-sub-left : tie.Need-sub-left Inv-loop μ-loop
-sub-left c = omega arith
-
-loop-holds : tie.Need-loop-holds Inv-loop μ-loop
-loop-holds c = (omega arith, omega arith, λ j l r. omega arith)
-
-add-i : tie.Need-add-i Inv-loop μ-loop
-add-i c = omega arith
-
-mul-w : tie.Need-mul-w Inv-loop μ-loop
+mul-w : tie.Need-mul-w
 mul-w c = search needs
 
-shared-slice-read-w : tie.Need-shared-slice-read-w Inv-loop μ-loop
-shared-slice-read-w c = omega arith
+shared-slice-read-w : tie.Need-shared-slice-read-w
+shared-slice-read-w c = search needs
 
-add-reads : tie.Need-add-reads Inv-loop μ-loop
-add-reads c = omega arith
+returns-2 : tie.Need-returns-2
+returns-2 c = search needs
 
-returns : tie.Need-returns Inv-loop μ-loop
-returns c =
-    let v = c .before .before .before .loop .inv in
-    record {
-      place = record { past = omega arith; within = omega arith; between = λ j p q. v .2 j q p; there = λ l. c .if1 .taken };
-      number = λ l. refl;
-      nothing = λ l. absurd (let z : ⊥ = omega arith in z);
-      reads = omega arith;
-    }
+add-skip-unknown : tie.Need-add-skip-unknown
+add-skip-unknown c = search needs
 
-loop-less : tie.Need-loop-less Inv-loop μ-loop
-loop-less c = omega arith
+skip-unknown-requires : tie.Need-skip-unknown-requires
+skip-unknown-requires c κs = search needs
 
-loop-again : tie.Need-loop-again Inv-loop μ-loop
-loop-again c =
-    let l = c .before .before .before .loop in
-    let x = c .before .before .before .before .args in
-    let run = now (x .run) in
-    let i = x .from + l .reads in (
-      omega arith,
-      l .inv .1,
-      λ j p q.
-          let le : j ≤ i = omega arith in
-          ⊎-elim
-          (λ (e : j ≡ i). subst (λ (k : ℕ). none ≤ cell run k) (sym e) (c .if1 .left))
-          (λ (w : j < i). l .inv .2 j w q)
-          (eq-or-lt-of-le le),
-    )
+add-reads : tie.Need-add-reads
+add-reads c = let counted = c .before .skip-unknown .ensures .reads in omega arith
 
-returns-2 : tie.Need-returns-2 Inv-loop μ-loop
-returns-2 c =
-    let v = c .before .loop .inv in
-    record {
-      place = record { past = omega arith; within = omega arith; between = λ j p q. v .2 j (omega arith) p; there = λ l. absurd (let z : ⊥ = omega arith in z) };
-      number = λ l. absurd (let z : ⊥ = omega arith in z);
-      nothing = λ l. refl;
-      reads = omega arith;
-    }
+returns-3 : tie.Need-returns-3
+returns-3 c =
+    let x = c .before .before .before .before .before .before .args in
+    let rest = c .before .skip-unknown in
+    found-past (cell (now (x .run))) (length (now (x .run))) (x .from) (rest .result) (omega arith) (c .before .before .if2 .left) (rest .ensures)
 
 pub next-known-spec : {M : Type 1} → statement M
 next-known-spec =
     tie.close
     (tie.spec
-    Inv-loop
-    μ-loop
-    sub-left
-    loop-holds
-    add-i
+    returns
     mul-w
     shared-slice-read-w
+    returns-2
+    add-skip-unknown
+    skip-unknown-requires
     add-reads
-    returns
-    loop-less
-    loop-again
-    returns-2)
+    returns-3)

@@ -27,9 +27,9 @@ add-reads c =
 
 returns : tie.Need-returns
 returns c m e =
-    let x = c .before .before .before .before .before .args in
-    let back = c .before .before .before .previous-known in
-    let forth = c .before .before .next-known in
+    let x = c .before .before .before .before .args in
+    let back = c .before .before .previous-known in
+    let forth = c .before .next-known in
     let f = cell (now (x .run)) in
     let found =
     outwards f m (x .minute) (back .result) (forth .result) (omega arith) (back .ensures)
