@@ -1,6 +1,6 @@
 -- `knowledge::join_run` meets its contract. The loop's invariant: the minute is the first of a gap, or the minutes are through, and the row is joined
 -- with what the run tells of those before it. The measure is how many minutes are left. Assumes nothing.
-use mathlib.Core.Path.{_≡_, sym, ap, subst, _∙_}
+use mathlib.Core.Path.{_≡_, ap, subst, _∙_}
 use Prim.Native.Nat.{ℕ, suc, _-_, _≤_, _<_, min}
 use native.Mathlib.Omega.{arith}
 use denote.Ref.{now}

@@ -1,5 +1,4 @@
 -- `knowledge::next_known` meets its contract: the first place by itself, and the rest by `skip_unknown`. Assumes nothing.
-use Prim.Native.Nat.{ℕ, _+_}
 use native.Mathlib.Omega.{arith}
 use denote.Ref.{now}
 use lib.ListN.{length}

@@ -1,7 +1,7 @@
 -- `knowledge::skip_unknown` meets its contract. The loop's invariant: of the places from `from` on the first so many are read, and none of them is
 -- known. The measure is how many are left. Assumes nothing.
 use mathlib.Core.Path.{_≡_}
-use Prim.Native.Nat.{ℕ, _+_, _-_, _≤_, _<_}
+use Prim.Native.Nat.{_+_, _-_, _≤_}
 use native.Mathlib.Omega.{arith}
 use denote.Ref.{now}
 use lib.ListN.{length}
