@@ -14,3 +14,8 @@ below (suc k) n = below k n + digit n k
 unfoldable pub expanded : ℕ → ℕ → ℕ → ℕ
 expanded zero map v = 0
 expanded (suc k) map v = expanded k map v + digit map k * digit v (below k map) * 2 ^ k
+
+-- the way back: the values' digits at the map's places below k, packed one after another
+unfoldable pub gathered : ℕ → ℕ → ℕ → ℕ
+gathered zero map v = 0
+gathered (suc k) map v = gathered k map v + digit map k * digit v k * 2 ^ below k map

@@ -3,7 +3,7 @@ use mathlib.Core.Path.{_≡_, refl, sym, ap, _∙_}
 use mathlib.Core.Logic.{_⊎_, inl, inr, ⊎-elim}
 use Prim.Native.Nat.{ℕ, zero, suc, _+_, _-_, _*_, _/_, _%_, _^_, _≤_, _<_, zero-le, suc-le-suc}
 use native.Mathlib.Omega.{arith}
-use native.Mathlib.Nat.{div-one, pow-suc, mod-lt, le-of-suc-le-suc, not-suc-le-zero, div-div-eq-div-mul, mul-comm, zero-lt-suc, add-zero, add-suc, zero-mul, mul-zero, one-mul, le-refl, mul-assoc, eq-or-lt-of-le}
+use native.Mathlib.Nat.{div-one, pow-suc, mod-lt, le-of-suc-le-suc, not-suc-le-zero, div-div-eq-div-mul, mul-comm, zero-lt-suc, zero-mul, one-mul, mul-assoc, eq-or-lt-of-le}
 use lib.Count.{ones, ones-step, trailingZeros, under}
 use lib.Arith.{lt-one}
 use mathlib.Core.Bool.{Bool, true, false, true≢false}
@@ -24,6 +24,15 @@ pub digit-lt : (n k : ℕ) → digit n k < 2
 unfolding digit
 digit-lt n k = mod-lt (n / 2 ^ k) (zero-lt-suc 1)
 
+two : (x : ℕ) → x < 2 → (x ≡ 0) ⊎ (x ≡ 1)
+two zero h = inl refl
+two (suc zero) h = inr refl
+two (suc (suc x)) h = absurd (omega arith)
+
+-- a place is clear or set
+pub clear-or-set : (n k : ℕ) → (digit n k ≡ 0) ⊎ (digit n k ≡ 1)
+clear-or-set n k = two (digit n k) (digit-lt n k)
+
 pub digit-zero : (k : ℕ) → digit 0 k ≡ 0
 digit-zero zero = digit-low 0
 digit-zero (suc k) = digit-up 0 k ∙ digit-zero k
@@ -41,6 +50,15 @@ pub below-le : (k n : ℕ) → below k n ≤ k
 unfolding below
 below-le zero n = zero-le
 below-le (suc k) n = omega (arith, below-le k n, digit-lt n k)
+
+-- a clear place adds nothing to the count, a set one adds 1
+pub below-clear : (n k : ℕ) → digit n k ≡ 0 → below (suc k) n ≡ below k n
+unfolding below
+below-clear n k e = omega arith
+
+pub below-set : (n k : ℕ) → digit n k ≡ 1 → below (suc k) n ≡ suc (below k n)
+unfolding below
+below-set n k e = omega arith
 
 -- a number of k digits has as many set as `count_ones` says
 pub below-ones : (k n : ℕ) → n < 2 ^ k → below k n ≡ ones n
@@ -116,22 +134,20 @@ others (suc k) n j e h = go (λ i g. others k (n / 2) i (sym (digit-up n k) ∙ 
         let s : (n - 2 ^ k * 2) / 2 ≡ n / 2 - 2 ^ k = omega arith in
         rw pow-suc (digit-up (n - 2 ^ k * 2) i ∙ ap (λ (x : ℕ). digit x i) s ∙ ih i (λ r. g (ap suc r)) ∙ sym (digit-up n i))
 
--- ---- what the map's clear places do
+-- ---- the values expanded
 
--- over d clear places neither the count nor the expanded bits change
-pub skip : (p d map v : ℕ) → ((j : ℕ) → j < d → digit map (p + j) ≡ 0) → (below (p + d) map ≡ below p map) × (expanded (p + d) map v ≡ expanded p map v)
-unfolding below expanded
-skip p zero map v h = (ap (λ (x : ℕ). below x map) (add-zero p), ap (λ (x : ℕ). expanded x map v) (add-zero p))
-skip p (suc d) map v h =
-    let ih = skip p d map v (λ j l. h j (omega arith)) in
-    let b : digit map (p + d) ≡ 0 = h d (omega arith) in
-    let z : 0 * digit v (below (p + d) map) * 2 ^ (p + d) ≡ 0 = rw (zero-mul, zero-mul) in
-    rw (add-suc, b) (omega arith, rw z (omega arith))
+-- a clear place of the map adds nothing, a set one the next packed digit
+pub expanded-clear : (map v k : ℕ) → digit map k ≡ 0 → expanded (suc k) map v ≡ expanded k map v
+unfolding expanded
+expanded-clear map v k e = rw (e, zero-mul, zero-mul) (omega arith)
 
-two : (x : ℕ) → x < 2 → (x ≡ 0) ⊎ (x ≡ 1)
-two zero h = inl refl
-two (suc zero) h = inr refl
-two (suc (suc x)) h = absurd (omega arith)
+pub expanded-set : (map v k : ℕ) → digit map k ≡ 1 → expanded (suc k) map v ≡ expanded k map v + digit v (below k map) * 2 ^ k
+unfolding expanded
+expanded-set map v k e = rw (e, one-mul)
+
+-- with one digit more on top, one place more
+pub one-more : {d x w : ℕ} → d < 2 → x < w → x + d * w < w * 2
+one-more {d} h l = ⊎-elim (λ (e : d ≡ 0). rw (e, zero-mul) (omega arith)) (λ (e : d ≡ 1). rw (e, one-mul) (omega arith)) (two d h)
 
 -- the bits below place k make a number of k digits
 pub expanded-lt : (k map v : ℕ) → expanded k map v < 2 ^ k
@@ -139,13 +155,11 @@ unfolding expanded
 expanded-lt zero map v = suc-le-suc zero-le
 expanded-lt (suc k) map v =
     let ih = expanded-lt k map v in
-    let b = digit map k in
-    let x = digit v (below k map) in
-    let le : b * x * 2 ^ k ≤ 2 ^ k = ⊎-elim
-    (λ (e : b ≡ 0). rw (e, zero-mul, zero-mul) zero-le)
-    (λ (e : b ≡ 1). ⊎-elim (λ (f : x ≡ 0). rw (e, f, mul-zero, zero-mul) zero-le) (λ (f : x ≡ 1). rw (e, f, one-mul) (le-refl _)) (two x (digit-lt v (below k map))))
-    (two b (digit-lt map k)) in
-    rw pow-suc (omega arith)
+    rw pow-suc
+    (⊎-elim
+    (λ (e : digit map k ≡ 0). rw (expanded-clear map v k e) (omega arith))
+    (λ (e : digit map k ≡ 1). rw (expanded-set map v k e) (one-more (digit-lt v (below k map)) ih))
+    (clear-or-set map k))
 
 -- ---- the result's bits, one by one
 
@@ -191,11 +205,14 @@ pub bit-digit : (n k : ℕ) → bit n k ≡ eqb (digit n k) 1
 unfolding bit digit
 bit-digit n k = refl
 
+pub set-digit : (n k : ℕ) → bit n k ≡ true → digit n k ≡ 1
+set-digit n k e = eqb-true _ _ (sym (bit-digit n k) ∙ e)
+
 -- the expanded values have bits at the map's places only
 pub expanded-named : (n map v k : ℕ) → bit (expanded n map v) k ≡ true → bit map k ≡ true
 expanded-named n map v k e =
     let l : k < n = bit-below n (expanded n map v) (expanded-lt n map v) k e in
-    let one : digit (expanded n map v) k ≡ 1 = eqb-true _ _ (sym (bit-digit (expanded n map v) k) ∙ e) in
+    let one : digit (expanded n map v) k ≡ 1 = set-digit (expanded n map v) k e in
     bit-digit map k ∙ eq-eqb _ _ (set (digit map k) (digit v (below k map)) (digit-lt map k) (sym (expanded-bit n k map v l) ∙ one))
   where
     set : (b x : ℕ) → b < 2 → b * x ≡ 1 → b ≡ 1
@@ -204,7 +221,7 @@ expanded-named n map v k e =
 -- a place that the map has takes the packed bit whose number is how many places it has below, and any other has none
 pub expanded-value : (n map v k : ℕ) → k < n → bit map k ≡ true → bit (expanded n map v) k ≡ bit v (below k map)
 expanded-value n map v k l e =
-    let one : digit map k ≡ 1 = eqb-true _ _ (sym (bit-digit map k) ∙ e) in
+    let one : digit map k ≡ 1 = set-digit map k e in
     let same : digit (expanded n map v) k ≡ digit v (below k map) = expanded-bit n k map v l ∙ rw (one, one-mul) in
     bit-digit (expanded n map v) k ∙ ap (λ (x : ℕ). eqb x 1) same ∙ sym (bit-digit v (below k map))
 

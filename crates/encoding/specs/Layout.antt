@@ -1,6 +1,6 @@
 -- A format as data: how many bytes each of its fields takes. "A bit map, then only the fields whose bit stands": field k has bit k of the map,
 -- and the fields stand in the order of their bits.
-use Prim.Native.Nat.{ℕ, zero, suc, _+_, _<_}
+use Prim.Native.Nat.{ℕ, zero, suc, _+_, _*_, _^_, _<_}
 use mathlib.Core.Path.{_≡_}
 use mathlib.Core.Bool.{true, cond}
 use mathlib.Core.Logic.{_↔_, _≢_}
@@ -29,6 +29,11 @@ value-at s at zero = 0
 value-at s at (suc zero) = getD s at 0
 value-at s at (suc (suc zero)) = word-of (getD s at 0) (getD s (at + 1) 0)
 value-at s at (suc (suc (suc w))) = long-of (getD s at 0) (getD s (at + 1) 0) (getD s (at + 2) 0) (getD s (at + 3) 0)
+
+-- the number in n bytes at a place, the lowest byte first
+abbrev pub bytes-at : List ℕ → ℕ → ℕ → ℕ
+bytes-at s at zero = 0
+bytes-at s at (suc n) = bytes-at s at n + getD s (at + n) 0 * 256 ^ n
 
 -- "An absent field is 0": field k of what stands at a place
 abbrev pub field : List ℕ → List ℕ → ℕ → ℕ → ℕ

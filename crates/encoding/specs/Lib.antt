@@ -2,3 +2,5 @@
 pub mod Fields
 pub mod Layout
 pub mod Laws
+pub mod Text
+pub mod Texts

@@ -2,38 +2,24 @@
 -- Assumes nothing.
 use Prim.Native.Nat.{ℕ, _^_, _<_}
 use mathlib.Core.Path.{_≡_, refl, sym, ap, _∙_}
-use mathlib.Core.Bool.{Bool, true, false, not, _&&_, _||_, xor, Bool·beq, true≢false, or-true}
-use mathlib.Core.Logic.{_↔_}
-use lib.Bits.{bitAnd, bitOr, bitXor, or-lt, and-lt, xor-lt}
+use mathlib.Core.Bool.{Bool, true, false, not, _&&_, _||_, xor, Bool·beq, true≢false}
+use lib.Bits.{bitAnd, bitOr, bitXor, and-lt, xor-lt}
 use lib.Dec.{ltb, eqb}
 use Rattle.decide.specs.Laws.{is-false, agree, same, itself, less, equal, none, each, each-same}
-use Rattle.bits.specs.Bits.{bit, bit-or, bits-same}
-use Rattle.bits.specs.Masks.{bit-and, bit-xor, no-bits, low-bits}
+use Rattle.bits.specs.Bits.{bit}
+use Rattle.bits.specs.Masks.{bit-and, bit-xor, no-bits, low-bits, or-inside}
 use Rattle.knowledge.specs.Knowledge.{word-sound, words-agree}
 use Rattle.knowledge.specs.Laws.{word-decides}
 
-absorbed : (a b : Bool) → (b ≡ true → a ≡ true) → (a || b) ≡ a
-absorbed true b h = refl
-absorbed false true h = sym (h refl)
-absorbed false false h = refl
-
--- the values lie among the known where joining them adds nothing
-inside : (known values : ℕ) → known < 2 ^ 32 → values < 2 ^ 32
-    → (bitOr known values ≡ known) ↔ ((i : ℕ) → i < 32 → bit values i ≡ true → bit known i ≡ true)
-inside known values h k = (
-  λ e i l f. sym (ap (λ (x : ℕ). bit x i) e) ∙ bit-or i known values ∙ ap (λ (x : Bool). bit known i || x) f ∙ or-true (bit known i),
-  λ f. bits-same 32 (bitOr known values) known (or-lt 32 known values h k) h (λ i l. bit-or i known values ∙ absorbed (bit known i) (bit values i) (f i l)),
-)
-
 module _ (p known values : ℕ) (h : known < 2 ^ 32) (k : values < 2 ^ 32) where
   pub word-fails : (bitOr known values ≡ known → ⊥) → word-sound p known values ≡ false
-  word-fails n = is-false (word-decides p known values) (λ f. n (inside known values h k .1 (λ i l. f i l .0)))
+  word-fails n = is-false (word-decides p known values) (λ f. n (or-inside 32 known values h k .1 (λ i l. f i l .0)))
 
   pub word-limit : bitOr known values ≡ known → ltb known (2 ^ p) ≡ word-sound p known values
   word-limit e =
       agree
       (same
-      (λ (l : known < 2 ^ p) i (b : i < 32). (inside known values h k .0 e i b, low-bits 32 p known h .0 l i b))
+      (λ (l : known < 2 ^ p) i (b : i < 32). (or-inside 32 known values h k .0 e i b, low-bits 32 p known h .0 l i b))
       (λ f. low-bits 32 p known h .1 (λ i b. f i b .1))
       (less known (2 ^ p)))
       (word-decides p known values)

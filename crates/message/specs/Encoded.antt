@@ -1,5 +1,5 @@
 -- 01, "The slip", a second time: which numbers are a message, and how they stand in the bytes. Nothing is read or tested here.
-use Prim.Native.Nat.{ℕ, zero, suc, _+_, _*_, _/_, _^_, _≤_, _<_}
+use Prim.Native.Nat.{ℕ, _+_, _/_, _^_, _≤_, _<_}
 use mathlib.Core.Path.{_≡_}
 use mathlib.Core.Bool.{Bool, true, false}
 use mathlib.Core.List.{List, [], _∷_}
@@ -7,7 +7,7 @@ use lib.ListN.{getD, length}
 use Rattle.bits.specs.Bits.{bit}
 use Rattle.bits.specs.Digits.{below}
 use Rattle.encoding.specs.Fields.{has}
-use Rattle.encoding.specs.Layout.{follows, Laid}
+use Rattle.encoding.specs.Layout.{bytes-at, follows, Laid}
 use Rattle.policy.specs.declared.Sizes.{Sizes}
 use Rattle.message.specs.declared.Event.{Event}
 use Rattle.message.specs.declared.Event.the-variants.{Observation, Alive}
@@ -35,11 +35,6 @@ pub data Is-event (z : Sizes) : ℕ → ℕ → ℕ → ℕ → ℕ → Event �
 abbrev pub is-alive-event : Event → Bool
 is-alive-event (Observation minute number named values) = false
 is-alive-event (Alive minute number) = true
-
--- the number in n bytes at a place, the lowest byte first
-abbrev pub bytes-at : List ℕ → ℕ → ℕ → ℕ
-bytes-at s at zero = 0
-bytes-at s at (suc n) = bytes-at s at n + getD s (at + n) 0 * 256 ^ n
 
 -- The bytes are a message: "a bit map, then fields", the mark map "followed by its values": "if n marks are named, the values are n/8 bytes rounded
 -- up"; and nothing after them

@@ -14,7 +14,7 @@ use Rattle.bits.specs.Digits.{digit, below, expanded}
 use Rattle.bits.specs.Packed.{below-le, expanded-lt, expanded-value, expanded-other, expanded-only}
 use Rattle.bits.specs.Masks.{bits-below}
 use Rattle.encoding.specs.Fields.{has, written}
-use Rattle.encoding.specs.Layout.{field, Laid}
+use Rattle.encoding.specs.Layout.{bytes-at, field, Laid}
 use Rattle.encoding.specs.Laws.{laid-start, laid-field, laid-written, fields-laid}
 use Rattle.refusal.specs.declared.Refusal.the-variants.{BadMessage}
 use Rattle.refusal.specs.declared.Answer.the-variants.{Accepted, Refused}
@@ -25,7 +25,7 @@ use Rattle.message.specs.declared.Fields.{Fields}
 use Rattle.message.specs.declared.Event.{Event}
 use Rattle.message.specs.declared.Event.the-variants.{Observation}
 use Rattle.message.specs.Format.{widths, map-of, values-at, component-of, minute-of, number-of, named-of, value-bytes, packed-at, packed-of, fields-of, length-of, good-alive, good-observation, all-written, good-fields, good-message, message-checks, answer-of, event-if, event-in}
-use Rattle.message.specs.Encoded.{Values, Is-event, is-observation, is-alive, is-alive-event, bytes-at, Is-message}
+use Rattle.message.specs.Encoded.{Values, Is-event, is-observation, is-alive, is-alive-event, Is-message}
 use Rattle.message.specs.Fixes.{Message, meaning-of}
 
 -- ---- the fields
@@ -94,7 +94,7 @@ its-values named packed = record {
   other-value = λ k e. expanded-other 32 named packed k e;
 }
 
-only-values : (named packed values : ℕ) → Values named packed values → values ≡ expanded 32 named packed
+pub only-values : (named packed values : ℕ) → Values named packed values → values ≡ expanded 32 named packed
 only-values named packed values v = expanded-only 32 named packed values (v .small) (v .named-value) (v .other-value)
 
 -- ---- the event

@@ -3,3 +3,4 @@ pub mod Numbers
 pub mod Table
 pub mod Checks
 pub mod Laws
+pub mod Writes

@@ -1,11 +1,11 @@
--- 01, "Reasons to turn a call away": the number and the place of each.
+-- 01, "Reasons to turn a call away", with 11 of 02, request 3: the number and the place of each.
 use Prim.Native.Nat.{ℕ, _+_}
 use native.Mathlib.Nat.{zero-add}
 use mathlib.Core.Path.{_≡_, refl}
 use mathlib.Core.List.{[], _∷_}
 use lib.ListN.{getD}
 use Rattle.refusal.specs.declared.Refusal.{Refusal}
-use Rattle.refusal.specs.declared.Refusal.the-variants.{TruncatedPolicy, BadHeading, BadSubformula, RuleCount, BufferSize, CorruptKnowledge, TruncatedMessage, BadMessage, Conflict, OutOfRange}
+use Rattle.refusal.specs.declared.Refusal.the-variants.{TruncatedPolicy, BadHeading, BadSubformula, RuleCount, BufferSize, CorruptKnowledge, TruncatedMessage, BadMessage, Conflict, OutOfRange, ShortBuffer}
 
 abbrev pub refusal-number : Refusal → ℕ
 refusal-number (TruncatedPolicy at) = 1
@@ -18,6 +18,7 @@ refusal-number (TruncatedMessage at) = 7
 refusal-number BadMessage = 8
 refusal-number Conflict = 9
 refusal-number OutOfRange = 10
+refusal-number ShortBuffer = 11
 
 -- the place named in the table, and 0 where it names none
 abbrev pub refusal-place : Refusal → ℕ
@@ -31,6 +32,7 @@ refusal-place (TruncatedMessage at) = at
 refusal-place BadMessage = 0
 refusal-place Conflict = 0
 refusal-place OutOfRange = 0
+refusal-place ShortBuffer = 0
 
 -- 02, request 1: in a packet the "place counted from the packet's start (the slip's first byte for refusals checked after 7; those checked before it
 -- keep their places)", where the slip starts at byte `start`
@@ -45,6 +47,7 @@ packet-place start (TruncatedMessage at) = start + at
 packet-place start BadMessage = start
 packet-place start Conflict = start
 packet-place start OutOfRange = refusal-place OutOfRange
+packet-place start ShortBuffer = refusal-place ShortBuffer
 
 -- at the packet's start each keeps its place
 pub first-place : (r : Refusal) → packet-place 0 r ≡ refusal-place r
@@ -58,11 +61,12 @@ first-place (TruncatedMessage at) = zero-add at
 first-place BadMessage = refl
 first-place Conflict = refl
 first-place OutOfRange = refl
+first-place ShortBuffer = refl
 
 -- the refusal with this number and place, the numbers in order from 1
 abbrev pub refusal-of : ℕ → ℕ → Refusal
 refusal-of n at =
-    getD (OutOfRange ∷ TruncatedPolicy at ∷ BadHeading at ∷ BadSubformula at ∷ RuleCount ∷ BufferSize ∷ CorruptKnowledge ∷ TruncatedMessage at ∷ BadMessage ∷ Conflict ∷ OutOfRange ∷ []) n OutOfRange
+    getD (OutOfRange ∷ TruncatedPolicy at ∷ BadHeading at ∷ BadSubformula at ∷ RuleCount ∷ BufferSize ∷ CorruptKnowledge ∷ TruncatedMessage at ∷ BadMessage ∷ Conflict ∷ OutOfRange ∷ ShortBuffer ∷ []) n OutOfRange
 
 -- it is the only one
 pub only-one : (r : Refusal) → refusal-of (refusal-number r) (refusal-place r) ≡ r
@@ -76,3 +80,4 @@ only-one (TruncatedMessage at) = refl
 only-one BadMessage = refl
 only-one Conflict = refl
 only-one OutOfRange = refl
+only-one ShortBuffer = refl

@@ -1,7 +1,7 @@
 -- 01, "Reasons to turn a call away": the table's numbers and places, each computed.
 use Prim.Native.Nat.{ℕ, _+_}
 use mathlib.Core.Path.{_≡_, refl}
-use Rattle.refusal.specs.declared.Refusal.the-variants.{TruncatedPolicy, BadHeading, BadSubformula, RuleCount, BufferSize, CorruptKnowledge, TruncatedMessage, BadMessage, Conflict, OutOfRange}
+use Rattle.refusal.specs.declared.Refusal.the-variants.{TruncatedPolicy, BadHeading, BadSubformula, RuleCount, BufferSize, CorruptKnowledge, TruncatedMessage, BadMessage, Conflict, OutOfRange, ShortBuffer}
 use Rattle.refusal.specs.Numbers.{refusal-number, refusal-place, packet-place}
 
 pub record Table : Type 0 where
@@ -25,6 +25,8 @@ pub record Table : Type 0 where
   pub clash : (refusal-number Conflict ≡ 9) × (refusal-place Conflict ≡ 0)
   -- 10, off the sheet
   pub off-the-sheet : (refusal-number OutOfRange ≡ 10) × (refusal-place OutOfRange ≡ 0)
+  -- 11, short paper (02, request 3); "numbers added later have place 0 where none is named"
+  pub short-paper : (refusal-number ShortBuffer ≡ 11) × (refusal-place ShortBuffer ≡ 0)
 
 pub table : Table
 table = record {
@@ -38,6 +40,7 @@ table = record {
   bad-slip = (refl, refl);
   clash = (refl, refl);
   off-the-sheet = (refl, refl);
+  short-paper = (refl, refl);
 }
 
 -- 02, request 1: where a refusal stands in a packet whose message starts at byte `start`

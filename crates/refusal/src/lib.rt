@@ -25,11 +25,19 @@ pub enum Refusal {
     Conflict,
     // 10, off the sheet
     OutOfRange,
+    // 11, short paper (02, request 3): the lent buffer is shorter than the text
+    ShortBuffer,
 }
 
 // What a check answers, or a call's checks one after another: they let it pass, or the first that fails refuses it.
 pub enum Answer {
     Accepted,
+    Refused(Refusal),
+}
+
+// What a call that writes a text answers: how long the text is, or why nothing was written.
+pub enum Written {
+    Length(usize),
     Refused(Refusal),
 }
 
@@ -48,6 +56,7 @@ pub fn number(r: Refusal) -> u8
         Refusal::BadMessage => 8,
         Refusal::Conflict => 9,
         Refusal::OutOfRange => 10,
+        Refusal::ShortBuffer => 11,
     }
 }
 
@@ -66,6 +75,7 @@ pub fn place(r: Refusal) -> usize
         Refusal::BadMessage => 0,
         Refusal::Conflict => 0,
         Refusal::OutOfRange => 0,
+        Refusal::ShortBuffer => 0,
     }
 }
 
@@ -86,5 +96,6 @@ pub fn place_in_packet(r: Refusal, start: usize) -> usize
         Refusal::BadMessage => start,
         Refusal::Conflict => start,
         Refusal::OutOfRange => place(r),
+        Refusal::ShortBuffer => place(r),
     }
 }

@@ -5,7 +5,7 @@ use native.Mathlib.Omega.{arith}
 use lib.Dec.{ltb}
 use lib.Pow.{pow-mono}
 use borrow.Author.Tests.{lt-ltb}
-use Rattle.message.proofs.Walk.{weight}
+use Rattle.bits.specs.Places.{weight}
 use borrow.Author.Needs.{needs}
 use Rattle.message.proofs.fits_below.Statement.{statement}
 use Rattle.message.proofs.fits_below.Tie as tie

@@ -66,6 +66,12 @@ enum-told-9 c = search needs
 place-requires-7 : tie.Need-place-requires-7
 place-requires-7 c κs = search needs
 
+enum-told-10 : tie.Need-enum-told-10
+enum-told-10 c = search needs
+
+place-requires-8 : tie.Need-place-requires-8
+place-requires-8 c κs = search needs
+
 returns : tie.Need-returns
 returns c = search needs
 
@@ -96,6 +102,9 @@ returns-9 c = search needs
 returns-10 : tie.Need-returns-10
 returns-10 c = search needs
 
+returns-11 : tie.Need-returns-11
+returns-11 c = search needs
+
 pub place-in-packet-spec : {M : Type 1} → statement M
 place-in-packet-spec =
     tie.close
@@ -118,6 +127,8 @@ place-in-packet-spec =
     enum-told-8
     enum-told-9
     place-requires-7
+    enum-told-10
+    place-requires-8
     returns
     returns-2
     returns-3
@@ -127,4 +138,5 @@ place-in-packet-spec =
     returns-7
     returns-8
     returns-9
-    returns-10)
+    returns-10
+    returns-11)
