@@ -1,15 +1,15 @@
 -- What a call learns of its policy from the reader's answer: where it accepts, the policy is the one that the bytes say, in range; where it
 -- refuses, so do the bytes. Assumes nothing.
-use mathlib.Core.Path.{_≡_, sym, ap, subst, _∙_}
+use mathlib.Core.Path.{_≡_, sym, subst}
 use mathlib.Core.List.{List}
 use Prim.Native.Nat.{ℕ}
 use Rattle.policy.specs.declared.Policy.{Policy}
 use Rattle.policy.specs.declared.Decoded.{Decoded}
-use Rattle.refusal.specs.declared.Answer.{Answer as Checked}
 use Rattle.refusal.specs.declared.Answer.the-variants as C
 use Rattle.policy.specs.Format.{answer-of, policy-of, decode-of}
 use Rattle.policy.specs.Proper.{Proper}
-use Rattle.policy.specs.Laws.{accepted, decoded, decoded-answer}
+use Rattle.policy.specs.Laws.{accepted, handed-out}
+pub use Rattle.policy.specs.Laws.{answered}
 
 -- the policy that was read
 pub record Read (s : List ℕ) (p : Policy) : Type 0 where
@@ -17,11 +17,8 @@ pub record Read (s : List ℕ) (p : Policy) : Type 0 where
   pub same : p ≡ policy-of s
   pub proper : Proper p
 
-pub answered : (s : List ℕ) (d : Decoded) (a : Checked) → d ≡ decode-of s → d .answer ≡ a → answer-of s ≡ a
-answered s d a e f = sym (decoded-answer s) ∙ ap (λ (x : Decoded). x .answer) (sym e) ∙ f
-
 pub read-policy : (s : List ℕ) (d : Decoded) → d ≡ decode-of s → d .answer ≡ C.Accepted → Read s (d .policy)
 read-policy s d e f =
     let card = answered s d C.Accepted e f in
-    let same : d .policy ≡ policy-of s = ap (λ (x : Decoded). x .policy) e ∙ decoded s card in
+    let same : d .policy ≡ policy-of s = handed-out s d e f in
     record { card = card; same = same; proper = subst Proper (sym same) (accepted s card) }

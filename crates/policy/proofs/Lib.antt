@@ -1,3 +1,4 @@
 pub mod Decoding
 pub mod Line
 pub mod Lines
+pub mod Writing

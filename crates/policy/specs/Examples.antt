@@ -1,12 +1,19 @@
 -- A policy with a line of every kind and one that has every field. The list of widths is shared by what is read and by what is stated of it, so that
 -- no theorem can tell a wrong one: this example does.
 use mathlib.Core.Path.{_≡_, refl}
-use mathlib.Core.List.{List, [], _∷_}
+use mathlib.Core.Bool.{true, false}
+use mathlib.Core.List.{List, [], _∷_, _++_}
+use lib.ListN.{replicate}
 use Prim.Native.Nat.{ℕ}
 use Rattle.mtl.specs.declared.Formula.the-variants as F
+use Rattle.refusal.specs.declared.Refusal.the-variants.{BadHeading, BadSubformula, RuleCount, ShortBuffer}
 use Rattle.refusal.specs.declared.Answer.the-variants.{Accepted}
+use Rattle.refusal.specs.declared.Written.the-variants.{Length, Refused}
+use Rattle.policy.specs.declared.LineNumbers.{LineNumbers}
+use Rattle.policy.specs.declared.PolicyNumbers.{PolicyNumbers}
 use Rattle.policy.specs.Format.{line-length, fields-at, keeps-kind, good-line, meaning, formula-of, subformula-of, subformula-at, offset, heading-checks, line-checks, lines-checks, lines-up-to, subformulas-of, rules-up-to, closing-checks, policy-checks, answer-of, policy-of}
 use Rattle.policy.specs.Proper.{formula-at}
+use Rattle.policy.specs.Text.{numbered, line-text, lines-text, text-of, line-good, lines-good, encode-checks, encode-of}
 
 -- 2 marks, 3 stations, 258 minutes, 6 lines: true; mark 1; not line 1; line 1 or line 2; line 1 since line 2 from 1 to 258, a rule; line 3 until
 -- line 4 from 256 to 1,023
@@ -50,4 +57,61 @@ kinds-read = record {
   line-3 = refl;
   line-4 = refl;
   line-5 = refl;
+}
+
+-- ---- written (02, request 3)
+
+-- the numbers of that policy, with a line past the six that is not looked at
+abbrev every-number : PolicyNumbers
+every-number =
+    record {
+      propositions = 2;
+      components = 3;
+      minutes = 258;
+      count = 6;
+      lines =
+          numbered 0 0 0 0 0 false
+          ∷ numbered 1 1 0 0 0 false
+          ∷ numbered 2 1 0 0 0 false
+          ∷ numbered 3 1 2 0 0 false
+          ∷ numbered 4 1 2 1 258 true
+          ∷ numbered 5 3 4 256 1023 false
+          ∷ numbered 9 99 99 99 9 true
+          ∷ [];
+    }
+
+-- the same with other lines
+abbrev with-lines : ℕ → List LineNumbers → PolicyNumbers
+with-lines n lines = record { propositions = 2; components = 3; minutes = 258; count = n; lines = lines }
+
+pub record Every-number : Type 0 where
+  pub text : text-of every-number ≡ every-kind
+  -- into a buffer that fits, one that is longer, and one that is a byte short
+  pub exact : encode-of every-number (replicate 32 7) ≡ record { answer = Length 32; out = every-kind }
+  pub longer : encode-of every-number (replicate 34 7) ≡ record { answer = Length 32; out = every-kind ++ 7 ∷ 7 ∷ [] }
+  pub short : encode-of every-number (replicate 31 7) ≡ record { answer = Refused ShortBuffer; out = replicate 31 7 }
+  -- "in that order": a bad line and no rule are 3, also in a buffer that is short; no line at all is 2
+  pub line-first : encode-of (with-lines 1 (numbered 1 2 0 0 0 false ∷ [])) [] ≡ record { answer = Refused (BadSubformula 0); out = [] }
+  pub no-rule : encode-of (with-lines 1 (numbered 1 1 0 0 0 false ∷ [])) [] ≡ record { answer = Refused RuleCount; out = [] }
+  pub no-line : encode-of (with-lines 0 []) [] ≡ record { answer = Refused (BadHeading 0); out = [] }
+  -- 01's K, from its fields
+  pub k : text-of (record {
+    propositions = 1;
+    components = 1;
+    minutes = 4;
+    count = 3;
+    lines = numbered 0 0 0 0 0 false ∷ numbered 1 0 0 0 0 false ∷ numbered 4 0 1 0 2 true ∷ [];
+  }) ≡ 0x01 ∷ 0x01 ∷ 0x04 ∷ 0x00 ∷ 0x03 ∷ 0x00 ∷ 0x01 ∷ 0x01 ∷ 0x35 ∷ 0x04 ∷ 0x01 ∷ 0x02 ∷ 0x00 ∷ []
+
+pub numbers-written : Every-number
+unfolding line-text lines-text text-of line-good lines-good encode-checks encode-of
+numbers-written = record {
+  text = refl;
+  exact = refl;
+  longer = refl;
+  short = refl;
+  line-first = refl;
+  no-rule = refl;
+  no-line = refl;
+  k = refl;
 }

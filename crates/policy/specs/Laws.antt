@@ -1,7 +1,7 @@
 -- What a user may rely on: an accepted policy is proper and short, each refusal has its own cause, and decode hands out just that. Assumes
 -- nothing.
 use Prim.Native.Nat.{ℕ, zero, suc, _+_, _*_, _≤_, _<_}
-use mathlib.Core.Path.{_≡_, refl, sym, subst}
+use mathlib.Core.Path.{_≡_, refl, sym, ap, subst, _∙_}
 use mathlib.Core.List.{List}
 use native.Mathlib.Omega.{arith}
 use native.Mathlib.Decide.{decLt}
@@ -12,7 +12,9 @@ use Rattle.mtl.specs.declared.Formula.{Formula}
 use Rattle.mtl.specs.declared.Formula.the-variants as F
 use Rattle.mtl.specs.Syntax.{Operands, Proposes, Bounded}
 use Rattle.policy.specs.declared.Subformula.{Subformula}
+use Rattle.refusal.specs.declared.Answer.{Answer}
 use Rattle.refusal.specs.declared.Answer.the-variants.{Accepted, Refused}
+use Rattle.policy.specs.declared.Decoded.{Decoded}
 use Rattle.policy.specs.Format.{line-length, count-of, offset, with-answer, answer-of, policy-of, decode-of}
 use Rattle.policy.specs.Encoded.{Is-policy}
 use Rattle.policy.specs.Kinds.{earlier-operands, its-proposition, its-interval}
@@ -78,3 +80,10 @@ decoded-answer s = go (answer-of s)
 pub decoded : (s : List ℕ) → answer-of s ≡ Accepted → decode-of s .policy ≡ policy-of s
 unfolding decode-of
 decoded s e = rw e
+
+-- what a caller learns from it: the bytes are answered as it says, and where it accepts, its policy is what they say
+pub answered : (s : List ℕ) (d : Decoded) (a : Answer) → d ≡ decode-of s → d .answer ≡ a → answer-of s ≡ a
+answered s d a e f = sym (decoded-answer s) ∙ ap (λ (x : Decoded). x .answer) (sym e) ∙ f
+
+pub handed-out : (s : List ℕ) (d : Decoded) → d ≡ decode-of s → d .answer ≡ Accepted → d .policy ≡ policy-of s
+handed-out s d e f = ap (λ (x : Decoded). x .policy) e ∙ decoded s (answered s d Accepted e f)

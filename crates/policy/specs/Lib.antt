@@ -1,4 +1,4 @@
--- The policy: its format, and the laws of what is read.
+-- The policy: its format, the laws of what is read, and what is written.
 pub mod Causes
 pub mod Encoded
 pub mod Examples
@@ -12,3 +12,7 @@ pub mod Reads
 pub mod Rules
 pub mod Stands
 pub mod Table
+pub mod Text
+pub mod Written
+pub mod Refusals
+pub mod RoundTrip

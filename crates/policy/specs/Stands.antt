@@ -35,7 +35,7 @@ names k map v bits =
     )
 
 -- what holds of each of the five fields
-five : (P : ℕ → Type 0) → P 0 → P 1 → P 2 → P 3 → P 4 → (k : ℕ) → k < 5 → P k
+pub five : (P : ℕ → Type 0) → P 0 → P 1 → P 2 → P 3 → P 4 → (k : ℕ) → k < 5 → P k
 five P a b c d e zero h = a
 five P a b c d e (suc zero) h = b
 five P a b c d e (suc (suc zero)) h = c

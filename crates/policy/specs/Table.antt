@@ -2,7 +2,7 @@
 use Prim.Native.Nat.{ℕ, zero, suc, _+_, _-_, _≤_, _<_}
 use mathlib.Core.Path.{_≡_, refl, sym, ap, _∙_}
 use mathlib.Core.Bool.{Bool, true, false, cond}
-use mathlib.Core.List.{List, [], _∷_}
+use mathlib.Core.List.{List, [], _∷_, _++_}
 use mathlib.Core.Logic.{⊎-elim}
 use native.Mathlib.Omega.{arith}
 use native.Mathlib.Nat.{eq-or-lt-of-le}
@@ -12,6 +12,13 @@ use lib.Seq.{set-at, append-snoc, getD-at, getD-append-add}
 use Rattle.encoding.specs.Fields.{size}
 use Rattle.policy.specs.declared.Subformula.{Subformula}
 use Rattle.policy.specs.Format.{fields-at, subformula-of, subformula-at, offset, lines-up-to, no-line, subformulas-of, rule-lines, rules-up-to}
+
+-- the next of n places behind those that are filled is filled
+pub fill-one {ℓ} : {A : Type ℓ} (xs : List A) (d v : A) (n i : ℕ) → length xs ≡ i → i < n
+    → set (xs ++ replicate (n - i) d) i v ≡ xs ++ (v ∷ []) ++ replicate (n - suc i) d
+fill-one xs d v n i e h =
+    let k : n - i ≡ suc (n - suc i) = omega arith in
+    rw k (set-at xs d (replicate (n - suc i) d) v i e ∙ sym (append-snoc xs v (replicate (n - suc i) d)))
 
 module _ (s : List ℕ) where
   up-to-length : (n : ℕ) → length (lines-up-to s n) ≡ n
@@ -25,12 +32,7 @@ module _ (s : List ℕ) where
 
   pub one-more : (i : ℕ) → i < 64 → set (subformulas-of s i) i (subformula-at s (offset s i)) ≡ subformulas-of s (suc i)
   unfolding subformulas-of lines-up-to
-  one-more i h =
-      let v = subformula-at s (offset s i) in
-      let k : 64 - i ≡ suc (64 - suc i) = omega arith in
-      rw k
-      (set-at (lines-up-to s i) no-line (replicate (64 - suc i) no-line) v i (up-to-length i)
-      ∙ sym (append-snoc (lines-up-to s i) v (replicate (64 - suc i) no-line)))
+  one-more i h = fill-one (lines-up-to s i) no-line (subformula-at s (offset s i)) 64 i (up-to-length i) h
 
   pub table-length : (n : ℕ) → n ≤ 64 → length (subformulas-of s n) ≡ 64
   unfolding subformulas-of

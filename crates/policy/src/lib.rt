@@ -1,6 +1,12 @@
-// The policy (01: the card): its sizes, its subformulas and which of them are rules, read from bytes.
+// The policy (01: the card): its sizes, its subformulas and which of them are rules, read from bytes; and written, from its numbers.
+use encoding::field_length;
+use encoding::flag;
+use encoding::flag_if;
 use encoding::has;
 use encoding::is_written;
+use encoding::put;
+use encoding::put_bytes;
+use encoding::put_field;
 use encoding::read8;
 use encoding::read16;
 use encoding::size_of;
@@ -8,15 +14,20 @@ use encoding::word;
 use mtl::Formula;
 use refusal::Answer;
 use refusal::Refusal;
+use refusal::Written;
 ghost use mathlib.Core.Path.{_≡_};
 ghost use Prim.Native.Nat.{_+_, _/_, _%_, _≤_, _<_};
 ghost use mathlib.Core.Bool.{true};
 ghost use lib.ListN.{length, getD};
+ghost use lib.Seq.{sets};
 ghost use lib.Dec.{eqb, leb};
 ghost use Rattle.encoding.specs.Fields.{size, written};
 ghost use Rattle.refusal.specs.Checks.{first-failed};
+ghost use Rattle.refusal.specs.Writes.{Output};
 ghost use Rattle.policy.specs.Format.{line-length, fields-at, allowed, operands-good, keeps-kind, good-line, formula-of, subformula-of, within, heading-checks, sizes-of, blank, with-answer, closing-checks, decode-of};
 ghost use Rattle.policy.specs.Lines.{Scans};
+ghost use Rattle.policy.specs.Kinds.{zeros};
+ghost use Rattle.policy.specs.Text.{rules-among, heading-good, line-good, lines-good, line-map, line-text, lines-text, heading-text, encode-of};
 
 // How many bytes the heading takes.
 const HEADING: usize = 5;
@@ -96,6 +107,26 @@ pub struct Fields {
     pub second: u8,
     pub lower: u16,
     pub upper: u16,
+}
+
+// The numbers of a line as its maker has them, of any size, and whether it is a rule (02, request 3).
+pub struct LineNumbers {
+    pub kind: u16,
+    pub first: u16,
+    pub second: u16,
+    pub lower: u16,
+    pub upper: u16,
+    pub rule: bool,
+}
+
+// The numbers of a policy as its maker has them.
+pub struct PolicyNumbers {
+    pub propositions: usize,
+    pub components: usize,
+    pub minutes: usize,
+    // how many lines there are; the others are not looked at
+    pub count: usize,
+    pub lines: [LineNumbers; MOST_LINES],
 }
 
 // What the operands of a kind are.
@@ -510,4 +541,188 @@ pub fn decode(s: &[u8]) -> Decoded
         Answer::Refused(r) => refused(r),
         Answer::Accepted => decode_lines(s),
     }
+}
+
+// ---- what is written (02, request 3)
+
+// Is each heading number in range.
+fn heading_good(propositions: usize, components: usize, minutes: usize, count: usize) -> bool
+    ensures { λ r. ⌜ r ≡ heading-good propositions components minutes count ⌝ }
+{
+    let propositions_good = in_range(1, MOST_PROPOSITIONS, propositions);
+    let components_good = in_range(1, MOST_COMPONENTS, components);
+    let minutes_good = in_range(1, MOST_MINUTES, minutes);
+    let count_good = in_range(1, MOST_LINES, count);
+    propositions_good & (components_good & (minutes_good & count_good))
+}
+
+// Is each field that the kind doesn't allow 0.
+fn is_zero_else(kind: Kind, line: LineNumbers) -> bool
+    ensures { λ r. ⌜ r ≡ zeros kind (line .first) (line .second) (line .lower) (line .upper) ⌝ }
+{
+    let first = kind.first | (line.first == 0);
+    let second = kind.second | (line.second == 0);
+    let lower = kind.lower | (line.lower == 0);
+    let upper = kind.upper | (line.upper == 0);
+    first & (second & (lower & upper))
+}
+
+// Does line i, of these numbers, keep every rule of the format.
+fn line_good(propositions: usize, i: usize, line: LineNumbers) -> bool
+    ensures { λ r. ⌜ r ≡ line-good propositions i line ⌝ }
+{
+    let kind = line.kind as usize;
+    if kind >= KINDS.len() {
+        return false;
+    }
+    let row = KINDS[kind];
+    let operands = row.operands;
+    let zeros = is_zero_else(row, line);
+    let first = line.first as usize;
+    let second = line.second as usize;
+    let referred = operands_good(operands, propositions, i, first, second);
+    let ordered = line.lower <= line.upper;
+    let bounded = line.upper <= MOST_UPPER;
+    zeros & (referred & (ordered & bounded))
+}
+
+// Do the first count lines keep them.
+fn lines_good(propositions: usize, lines: [LineNumbers; MOST_LINES], count: usize) -> bool
+    requires { ⌜ count ≤ 64 ⌝ }
+    ensures { λ r. ⌜ r ≡ lines-good propositions lines count ⌝ }
+{
+    let mut good = true;
+    let mut i = 0;
+    while i < count {
+        let line = lines[i];
+        good = good & line_good(propositions, i, line);
+        i += 1;
+    }
+    good
+}
+
+// How many of the first count lines are rules.
+fn rules_among(lines: [LineNumbers; MOST_LINES], count: usize) -> usize
+    requires { ⌜ count ≤ 64 ⌝ }
+    ensures { λ r. ⌜ r ≡ rules-among lines count ⌝ }
+{
+    let mut rules = 0;
+    let mut i = 0;
+    while i < count {
+        let line = lines[i];
+        rules += flag_if(line.rule, 1) as usize;
+        i += 1;
+    }
+    rules
+}
+
+// How many bytes a line takes.
+fn line_size(line: LineNumbers) -> usize
+    ensures { λ r. ⌜ (r ≡ length (line-text line)) × (r ≤ 8) ⌝ }
+{
+    let kind = field_length(line.kind as usize, 1);
+    let first = field_length(line.first as usize, 1);
+    let second = field_length(line.second as usize, 1);
+    let lower = field_length(line.lower as usize, 2);
+    let upper = field_length(line.upper as usize, 2);
+    1 + kind + first + second + lower + upper
+}
+
+// How many bytes the first count lines take.
+fn lines_size(lines: [LineNumbers; MOST_LINES], count: usize) -> usize
+    requires { ⌜ count ≤ 64 ⌝ }
+    ensures { λ r. ⌜ (r ≡ length (lines-text lines count)) × (r ≤ 512) ⌝ }
+{
+    let mut size = 0;
+    let mut i = 0;
+    while i < count {
+        let line = lines[i];
+        size += line_size(line);
+        i += 1;
+    }
+    size
+}
+
+// The map of a line: the fields that are written, and whether it is a rule.
+fn line_map(line: LineNumbers) -> u8
+    ensures { λ r. ⌜ r ≡ line-map line ⌝ }
+{
+    let kind = flag(line.kind as usize, HAS_KIND);
+    let first = flag(line.first as usize, HAS_FIRST);
+    let second = flag(line.second as usize, HAS_SECOND);
+    let lower = flag(line.lower as usize, HAS_LOWER);
+    let upper = flag(line.upper as usize, HAS_UPPER);
+    let rule = flag_if(line.rule, IS_RULE);
+    kind + first + second + lower + upper + rule
+}
+
+// Writes a line, and says where the next one goes.
+fn put_line(out: &mut [u8], at: usize, line: LineNumbers) -> usize
+    requires { ⌜ at + length (line-text line) ≤ length (now out) ⌝ }
+    ensures { λ r. ⌜ (r ≡ at + length (line-text line)) × (now (out .exit) ≡ sets (now (out .entry)) at (line-text line)) ⌝ }
+{
+    let kind = put(out, at, line_map(line));
+    let first = put_field(out, kind, 1, line.kind as usize);
+    let second = put_field(out, first, 1, line.first as usize);
+    let lower = put_field(out, second, 1, line.second as usize);
+    let upper = put_field(out, lower, 2, line.lower as usize);
+    put_field(out, upper, 2, line.upper as usize)
+}
+
+// Writes the first count lines behind the heading.
+fn put_lines(out: &mut [u8], lines: [LineNumbers; MOST_LINES], count: usize)
+    requires { ⌜ (count ≤ 64) × (5 + length (lines-text lines count) ≤ length (now out)) ⌝ }
+    ensures { λ _. ⌜ now (out .exit) ≡ sets (now (out .entry)) 5 (lines-text lines count) ⌝ }
+{
+    let mut at = HEADING;
+    let mut i = 0;
+    while i < count {
+        let line = lines[i];
+        at = put_line(out, at, line);
+        i += 1;
+    }
+}
+
+// Writes the heading.
+fn put_heading(
+    out: &mut [u8],
+    propositions: usize,
+    components: usize,
+    minutes: usize,
+    count: usize,
+) -> usize
+    requires { ⌜ 5 ≤ length (now out) ⌝ }
+    ensures { λ r. ⌜ (r ≡ 5) × (now (out .exit) ≡ sets (now (out .entry)) 0 (heading-text propositions components minutes count)) ⌝ }
+{
+    let second = put_bytes(out, 0, 1, propositions);
+    let third = put_bytes(out, second, 1, components);
+    let fifth = put_bytes(out, third, 2, minutes);
+    put_bytes(out, fifth, 1, count)
+}
+
+// Writes the policy with these numbers, or says why it is refused; then nothing is written.
+pub fn encode(p: PolicyNumbers, out: &mut [u8]) -> Written
+    ensures { λ r. ⌜ _≡_ {A = Output} (record { answer = r; out = now (out .exit) }) (encode-of p (now (out .entry))) ⌝ }
+{
+    let propositions = p.propositions;
+    let components = p.components;
+    let minutes = p.minutes;
+    let count = p.count;
+    if !heading_good(propositions, components, minutes, count) {
+        return Written::Refused(Refusal::BadHeading(0));
+    }
+    let lines = p.lines;
+    if !lines_good(propositions, lines, count) {
+        return Written::Refused(Refusal::BadSubformula(0));
+    }
+    if !in_range(1, MOST_RULES, rules_among(lines, count)) {
+        return Written::Refused(Refusal::RuleCount);
+    }
+    let size = HEADING + lines_size(lines, count);
+    if out.len() < size {
+        return Written::Refused(Refusal::ShortBuffer);
+    }
+    put_heading(out, propositions, components, minutes, count);
+    put_lines(out, lines, count);
+    Written::Length(size)
 }
