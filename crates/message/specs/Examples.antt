@@ -2,14 +2,19 @@
 use mathlib.Core.Path.{_≡_, refl}
 use Prim.Native.Nat.{ℕ}
 use mathlib.Core.List.{List, [], _∷_, _++_}
-use Rattle.bits.specs.Digits.{digit, below, expanded}
-use Rattle.refusal.specs.declared.Refusal.the-variants.{TruncatedMessage, BadMessage}
+use mathlib.Core.Bool.{true, false}
+use Rattle.bits.specs.Digits.{digit, below, expanded, gathered}
+use Rattle.refusal.specs.declared.Refusal.the-variants.{TruncatedMessage, BadMessage, ShortBuffer}
 use Rattle.policy.specs.declared.Sizes.{Sizes}
 use Rattle.refusal.specs.declared.Answer.the-variants.{Accepted}
+use Rattle.refusal.specs.declared.Written.{Written}
+use Rattle.refusal.specs.declared.Written.the-variants.{Length, Refused}
+use Rattle.message.specs.declared.MessageNumbers.{MessageNumbers}
 use Rattle.message.specs.declared.Event.{Event}
 use Rattle.message.specs.declared.Event.the-variants.{Observation, Alive}
 use Rattle.message.specs.declared.Decoded.{Decoded}
 use Rattle.message.specs.Format.{component-of, minute-of, number-of, named-of, packed-of, fields-of, length-of, good-alive, good-observation, all-written, good-fields, event-in, answer-of, refused-with, decode-of, first-answer, first-of, used-of, rest-of, messages-of}
+use Rattle.message.specs.Text.{text-of, numbers-good, writing-checks, encode-under}
 
 abbrev sizes : Sizes
 sizes = record { propositions = 1; components = 1; minutes = 4 }
@@ -104,4 +109,62 @@ packets = record {
   three = refl;
   cut = refl;
   empty = refl;
+}
+
+-- 02, request 3: messages from their numbers.
+abbrev observation : ℕ → ℕ → ℕ → ℕ → ℕ → MessageNumbers
+observation component minute number named values =
+    record { component = component; alive = false; minute = minute; number = number; named = named; values = values }
+
+abbrev alive-at : ℕ → ℕ → ℕ → MessageNumbers
+alive-at minute number named = record { component = 0; alive = true; minute = minute; number = number; named = named; values = 0 }
+
+-- what is answered under the small shift's sizes, into a buffer of two bytes
+abbrev answers : MessageNumbers → Written
+answers n = encode-under sizes n (7 ∷ 7 ∷ []) .answer
+
+pub record Texts : Type 0 where
+  -- A and D of the small shift, and the alive that "is taken and changes nothing"
+  pub a : text-of (observation 0 0 1 1 0) ≡ A
+  pub d : text-of (observation 0 3 3 0 0) ≡ D
+  pub alive : text-of (alive-at 0 0 0) ≡ 0x10 ∷ []
+  -- every field, and values of marks 0, 2, 4, 8 to 12 and 31: nine marks, two bytes
+  pub every : text-of (observation 1 3 258 5 4) ≡ 0x0F ∷ 0x01 ∷ 0x03 ∷ 0x00 ∷ 0x02 ∷ 0x01 ∷ 0x05 ∷ 0x00 ∷ 0x00 ∷ 0x00 ∷ 0x02 ∷ []
+  pub nine : text-of (observation 0 0 1 0x80001F15 0x80000A04) ≡ 0x0C ∷ 0x01 ∷ 0x00 ∷ 0x15 ∷ 0x1F ∷ 0x00 ∷ 0x80 ∷ 0x52 ∷ 0x01 ∷ []
+  -- into a buffer that is longer, and one that is short; "nothing is written then"
+  pub longer : encode-under sizes (alive-at 0 0 0) (7 ∷ 7 ∷ []) ≡ record { answer = Length 1; out = 0x10 ∷ 7 ∷ [] }
+  pub short : encode-under sizes (observation 0 3 3 0 0) (7 ∷ 7 ∷ []) ≡ record { answer = Refused ShortBuffer; out = 7 ∷ 7 ∷ [] }
+  -- a station of the card's number and one past a byte, minutes 4 and 5, counts 0, 65535 and 65536, mark 1, a value where nothing is named, an alive that
+  -- names; 8 before 11
+  pub station : answers (observation 1 0 1 0 0) ≡ Refused BadMessage
+  pub station-256 : answers (observation 256 0 1 0 0) ≡ Refused BadMessage
+  pub late : answers (observation 0 4 1 0 0) ≡ Refused BadMessage
+  pub alive-late : answers (alive-at 5 0 0) ≡ Refused BadMessage
+  pub uncounted : answers (observation 0 0 0 0 0) ≡ Refused BadMessage
+  pub most : encode-under sizes (observation 0 0 65535 0 0) (7 ∷ 7 ∷ 7 ∷ []) ≡ record { answer = Length 3; out = 0x04 ∷ 0xFF ∷ 0xFF ∷ [] }
+  pub past-most : answers (observation 0 0 65536 0 0) ≡ Refused BadMessage
+  pub mark : answers (observation 0 0 1 2 0) ≡ Refused BadMessage
+  pub unnamed : answers (observation 0 0 1 0 1) ≡ Refused BadMessage
+  pub alive-named : answers (alive-at 0 0 1) ≡ Refused BadMessage
+
+pub texts : Texts
+unfolding gathered below digit text-of numbers-good writing-checks encode-under
+texts = record {
+  a = refl;
+  d = refl;
+  alive = refl;
+  every = refl;
+  nine = refl;
+  longer = refl;
+  short = refl;
+  station = refl;
+  station-256 = refl;
+  late = refl;
+  alive-late = refl;
+  uncounted = refl;
+  most = refl;
+  past-most = refl;
+  mark = refl;
+  unnamed = refl;
+  alive-named = refl;
 }

@@ -1,7 +1,14 @@
-// The message (01: the slip): how long it is, and what it says.
+// The message (01: the slip): how long it is, what it says, and how it is written.
+use encoding::field_length;
+use encoding::flag;
+use encoding::flag_if;
+use encoding::gather;
 use encoding::has;
 use encoding::is_written;
 use encoding::long;
+use encoding::put;
+use encoding::put_bytes;
+use encoding::put_field;
 use encoding::read8;
 use encoding::read16;
 use encoding::read32;
@@ -9,14 +16,19 @@ use encoding::size_of;
 use policy::Sizes;
 use refusal::Answer;
 use refusal::Refusal;
+use refusal::Written;
 ghost use mathlib.Core.Path.{_≡_};
 ghost use Prim.Native.Nat.{_+_, _^_, _≤_, _<_};
+ghost use mathlib.Core.List.{_++_};
 ghost use lib.Dec.{ltb};
-ghost use lib.ListN.{length};
+ghost use lib.ListN.{length, drop};
+ghost use lib.Seq.{sets};
 ghost use Rattle.bits.specs.Digits.{below, expanded};
 ghost use Rattle.encoding.specs.Fields.{field8};
 ghost use Rattle.message.specs.Format.{minute-at, number-at, named-at, values-at, value-bytes, packed-at, fields-of, length-of, measured, good-alive, good-observation, good-event, all-written, good-fields, event-in, refused-with, first-of, used-of, rest-of};
 ghost use Rattle.message.specs.Packet.{Part, step-of};
+ghost use Rattle.refusal.specs.Writes.{Output};
+ghost use Rattle.message.specs.Text.{event-numbers, alive-good, observation-good, kind-good, numbers-good, text-map, fields-part, text-of, encode-under, encode-of};
 
 // The bits of the map: which fields follow it, in their order, and whether it is an alive slip.
 const COMPONENT: u8 = 1;
@@ -32,6 +44,8 @@ const ALIVE: u8 = 16;
 const SPARE: u8 = 32;
 // How many propositions a map can name, a bit each.
 const NAMES: usize = 32;
+// The largest sequence number, of two bytes.
+const MOST_NUMBER: usize = 65535;
 
 // What a component reports (01: an observation, or an alive slip), with its minute and its sequence number (01: count).
 pub enum Event {
@@ -53,6 +67,17 @@ pub struct Decoded {
     pub answer: Answer,
     pub component: usize,
     pub event: Event,
+}
+
+// The numbers of a message as its maker has them, of any size (02, request 3).
+pub struct MessageNumbers {
+    pub component: usize,
+    // an alive slip, which names nothing, or else an observation
+    pub alive: bool,
+    pub minute: usize,
+    pub number: usize,
+    pub named: u32,
+    pub values: u32,
 }
 
 // How long the message at the start of some bytes is.
@@ -350,4 +375,153 @@ pub fn first_step(packet: &[u8], sizes: Sizes) -> Step
 {
     let first = read_first(packet, sizes);
     step_of(first.decoded, first.rest)
+}
+
+// ---- what is written (02, request 3)
+
+// The numbers of what the reader gives.
+fn numbers_of(component: usize, event: Event) -> MessageNumbers
+    ensures { λ r. ⌜ r ≡ event-numbers component event ⌝ }
+{
+    match event {
+        Event::Observation {
+            minute,
+            number,
+            named,
+            values,
+        } => MessageNumbers {
+            component: component,
+            alive: false,
+            minute: minute as usize,
+            number: number as usize,
+            named: named,
+            values: values,
+        },
+        Event::Alive { minute, number } => MessageNumbers {
+            component: component,
+            alive: true,
+            minute: minute as usize,
+            number: number as usize,
+            named: 0,
+            values: 0,
+        },
+    }
+}
+
+// Are the numbers of an alive slip in range.
+fn alive_good(sizes: Sizes, n: MessageNumbers) -> bool
+    ensures { λ r. ⌜ r ≡ alive-good sizes n ⌝ }
+{
+    (n.minute <= sizes.minutes) & ((n.named == 0) & (n.values == 0))
+}
+
+// Are the numbers of an observation in range.
+fn observation_good(sizes: Sizes, n: MessageNumbers) -> bool
+    ensures { λ r. ⌜ r ≡ observation-good sizes n ⌝ }
+{
+    let named = fits_below(n.named, sizes.propositions);
+    let valued = n.named | n.values == n.named;
+    (n.minute < sizes.minutes) & ((1 <= n.number) & (named & valued))
+}
+
+// Are the numbers those of a message of its kind.
+fn kind_good(sizes: Sizes, n: MessageNumbers) -> bool
+    ensures { λ r. ⌜ r ≡ kind-good sizes n ⌝ }
+{
+    if n.alive {
+        return alive_good(sizes, n);
+    }
+    observation_good(sizes, n)
+}
+
+// Are the numbers in range.
+fn numbers_good(sizes: Sizes, n: MessageNumbers) -> bool
+    ensures { λ r. ⌜ r ≡ numbers-good sizes n ⌝ }
+{
+    let kind = kind_good(sizes, n);
+    (n.component < sizes.components) & ((n.number <= MOST_NUMBER) & kind)
+}
+
+// How many bytes the message takes.
+fn text_size(n: MessageNumbers) -> usize
+    ensures { λ r. ⌜ (r ≡ length (text-of n)) × (r ≤ 14) ⌝ }
+{
+    let component = field_length(n.component, 1);
+    let minute = field_length(n.minute, 2);
+    let number = field_length(n.number, 2);
+    let named = field_length(n.named as usize, 4);
+    1 + component + minute + number + named + value_bytes(n.named)
+}
+
+// Its map: the fields that are written, and whether it is an alive slip.
+fn text_map(n: MessageNumbers) -> u8
+    ensures { λ r. ⌜ r ≡ text-map n ⌝ }
+{
+    let component = flag(n.component, COMPONENT);
+    let minute = flag(n.minute, MINUTE);
+    let number = flag(n.number, NUMBER);
+    let named = flag(n.named as usize, NAMED);
+    let alive = flag_if(n.alive, ALIVE);
+    component + minute + number + named + alive
+}
+
+// Writes the map and the fields, and says where the values go.
+fn put_fields(out: &mut [u8], n: MessageNumbers) -> usize
+    requires { ⌜ length (text-of n) ≤ length (now out) ⌝ }
+    ensures { λ r. ⌜ (r ≡ length (fields-part n)) × (now (out .exit) ≡ sets (now (out .entry)) 0 (fields-part n)) ⌝ }
+{
+    let component = put(out, 0, text_map(n));
+    let minute = put_field(out, component, 1, n.component);
+    let number = put_field(out, minute, 2, n.minute);
+    let named = put_field(out, number, 2, n.number);
+    put_field(out, named, 4, n.named as usize)
+}
+
+// Writes the message.
+fn put_text(out: &mut [u8], n: MessageNumbers)
+    requires { ⌜ length (text-of n) ≤ length (now out) ⌝ }
+    ensures { λ _. ⌜ now (out .exit) ≡ text-of n ++ drop (length (text-of n)) (now (out .entry)) ⌝ }
+{
+    let values = put_fields(out, n);
+    let packed = gather(n.named, n.values);
+    put_bytes(out, values, value_bytes(n.named), packed as usize);
+}
+
+// Writes the message under a policy of these sizes.
+fn encode_under(sizes: Sizes, n: MessageNumbers, out: &mut [u8]) -> Written
+    ensures { λ r. ⌜ _≡_ {A = Output} (record { answer = r; out = now (out .exit) }) (encode-under sizes n (now (out .entry))) ⌝ }
+{
+    if !numbers_good(sizes, n) {
+        return Written::Refused(Refusal::BadMessage);
+    }
+    let size = text_size(n);
+    if out.len() < size {
+        return Written::Refused(Refusal::ShortBuffer);
+    }
+    put_text(out, n);
+    Written::Length(size)
+}
+
+// Writes the message with these numbers under an encoded policy, or says why it is refused; then nothing is written.
+pub fn encode_numbers(policy: &[u8], n: MessageNumbers, out: &mut [u8]) -> Written
+    ensures { λ r. ⌜ _≡_ {A = Output} (record { answer = r; out = now (out .exit) }) (encode-of (now (policy .entry)) n (now (out .entry))) ⌝ }
+{
+    let decoded = policy::decode(policy);
+    let answer = decoded.answer;
+    match answer {
+        Answer::Refused(r) => Written::Refused(r),
+        Answer::Accepted => {
+            let p = decoded.policy;
+            let sizes = p.sizes;
+            encode_under(sizes, n, out)
+        }
+    }
+}
+
+// The same of what the reader gives: a component and its event.
+pub fn encode(policy: &[u8], component: usize, event: Event, out: &mut [u8]) -> Written
+    ensures { λ r. ⌜ _≡_ {A = Output} (record { answer = r; out = now (out .exit) }) (encode-of (now (policy .entry)) (event-numbers component event) (now (out .entry))) ⌝ }
+{
+    let n = numbers_of(component, event);
+    encode_numbers(policy, n, out)
 }
