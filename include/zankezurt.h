@@ -1,15 +1,15 @@
 /* The calls of the proved runtime monitor for C, on x86-64 Linux: link libmonitor_c.a, which `rt staticlib monitor_c` writes.
 
    A call gives 0, or the number of its refusal, and writes *detail: the place of a refusal (0 where it has none), how many
-   verdicts stand after zankezurt_receive, the verdict that zankezurt_lookup shows, 0 after zankezurt_open.
-   zankezurt_receive_packet writes *taken and *place instead. Nothing is asked of what the bytes and buffers hold, nor of their
-   lengths, and a refused call changes no buffer; of a packet this is meant of each message, and those taken before the refusal
-   remain taken.
+   verdicts stand after zankezurt_receive, the verdict that zankezurt_lookup shows, the length of what zankezurt_encode_policy or
+   zankezurt_encode_message wrote, 0 after zankezurt_open. zankezurt_receive_packet writes *taken and *place instead. Nothing is
+   asked of what the bytes, buffers and numbers hold, nor of lengths, and a refused call changes no buffer; of a packet this is meant
+   of each message, and those taken before the refusal remain taken.
 
-   What C itself asks of a caller: each pointer is aligned for its type and points to as many elements as its length says; a policy,
-   message or packet of length 0 may be NULL, a buffer, detail, taken and place may not; nothing that a call writes, *detail, *taken
-   and *place too, overlaps anything else that it is lent. No pointer is kept after a call. docs/EMBEDDING.md has stack, time,
-   threads and power cuts. */
+   What C itself asks of a caller: each pointer is aligned for its type and points to as many elements as its length says, fields to
+   64 lines; a policy, message or packet of length 0 may be NULL, a buffer (out too, even of length 0), fields, detail, taken and
+   place may not; nothing that a call writes, *detail, *taken and *place too, overlaps anything else that it is lent. No pointer is
+   kept after a call. docs/EMBEDDING.md has stack, time, threads and power cuts. */
 #ifndef ZANKEZURT_H
 #define ZANKEZURT_H
 
@@ -27,7 +27,8 @@ extern "C" {
 #endif
 
 /* Why a call was turned away. Four reasons have a place, a byte of the policy or message. In a packet 7, 8 and 9 have one, counted
-   from its start: 7 the packet's length, 8 and 9 the message's first byte. */
+   from its start: 7 the packet's length, 8 and 9 the message's first byte. Where 2, 3, 4 and 8 are of numbers that are to be
+   written, none has. */
 enum zankezurt_refusal {
     ZANKEZURT_ACCEPTED = 0,
     ZANKEZURT_TRUNCATED_POLICY = 1, /* the policy ends early, or bytes follow its last line; its length, or the first extra byte */
@@ -39,7 +40,8 @@ enum zankezurt_refusal {
     ZANKEZURT_TRUNCATED_MESSAGE = 7, /* the message ends early, or bytes follow; its length, or the first extra byte */
     ZANKEZURT_BAD_MESSAGE = 8,      /* the message breaks a rule of the format or a range of the policy */
     ZANKEZURT_CONFLICT = 9,         /* no run of the components agrees with what is known and the message */
-    ZANKEZURT_OUT_OF_RANGE = 10     /* a look at a rule or minute that the policy does not have */
+    ZANKEZURT_OUT_OF_RANGE = 10,    /* a look at a rule or minute that the policy does not have */
+    ZANKEZURT_SHORT_BUFFER = 11     /* the buffer is shorter than the text */
 };
 
 /* What the verdict sheet shows: blank, kept or broken. */
@@ -68,6 +70,17 @@ enum zankezurt_verdict {
 #define ZANKEZURT_LENT(state)                                                                                                    \
     (state).numbers, sizeof (state).numbers / sizeof (uint16_t), (state).facts, sizeof (state).facts / sizeof (uint32_t),        \
         (state).valuation, sizeof (state).valuation, (state).verdicts, sizeof (state).verdicts
+
+/* Lengths of buffers, in bytes, into which everything can be written. */
+#define ZANKEZURT_POLICY_LENGTH 517 /* no policy is longer */
+#define ZANKEZURT_MESSAGE_LENGTH 14 /* no message is longer */
+
+/* One line of a policy, as zankezurt_encode_policy wants it: what its kind has no use for is 0. docs/FORMAT.md has the kinds and the
+   ranges. */
+struct zankezurt_line {
+    uint16_t kind, first, second, lower, upper;
+    uint16_t rule; /* 0 no, any other number yes */
+};
 
 /* Opens the lent state under a policy, whatever the buffers held: nothing is known, and every verdict is blank. */
 uint8_t zankezurt_open(const uint8_t *policy, size_t policy_length,
@@ -103,11 +116,28 @@ uint8_t zankezurt_lookup(const uint8_t *policy, size_t policy_length,
                          size_t rule, size_t minute,
                          size_t *detail);
 
+/* Writes a policy from its sizes and the first `lines` of fields (the others are not looked at) at the start of out; a longer out
+   keeps its rest. Refused are, in this order, a size or number of lines out of range (2), a bad line (3), no rule or more than 8 (4)
+   and a short buffer (11). */
+uint8_t zankezurt_encode_policy(size_t propositions, size_t components, size_t minutes, size_t lines,
+                                const struct zankezurt_line fields[64],
+                                uint8_t *out, size_t out_length,
+                                size_t *detail);
+
+/* Writes a message under a policy at the start of out; a longer out keeps its rest. alive is 0 for an observation and any other
+   number for an alive, which names nothing. Bit k of named names proposition k, and bit k of values is its value, 0 where it is not
+   named. Refused are, in this order, the policy (1 to 4), numbers out of range (8) and a short buffer (11). */
+uint8_t zankezurt_encode_message(const uint8_t *policy, size_t policy_length,
+                                 size_t component, uint8_t alive, size_t minute, size_t number,
+                                 uint32_t named, uint32_t values,
+                                 uint8_t *out, size_t out_length,
+                                 size_t *detail);
+
 /* The version of the archive that is linked, counted as ZANKEZURT_VERSION is. */
 uint32_t zankezurt_version(void);
 
 /* Nothing is promised of the archive's functions where a pointer is NULL, not even with a length of 0: the language that they are
-   compiled from has no such slice. So in C the names of the four calls that take bytes stand for the functions below, which put an
+   compiled from has no such slice. So in C the names of the five calls that read bytes stand for the functions below, which put an
    address of their own in the place of an empty policy, message or packet. */
 static inline const uint8_t *zankezurt_bytes(const uint8_t *bytes, size_t length)
 {
@@ -161,10 +191,21 @@ static inline uint8_t zankezurt_lookup_bytes(const uint8_t *policy, size_t polic
                             verdicts, verdicts_length, rule, minute, detail);
 }
 
+static inline uint8_t zankezurt_encode_message_bytes(const uint8_t *policy, size_t policy_length,
+                                                     size_t component, uint8_t alive, size_t minute, size_t number,
+                                                     uint32_t named, uint32_t values,
+                                                     uint8_t *out, size_t out_length,
+                                                     size_t *detail)
+{
+    return zankezurt_encode_message(zankezurt_bytes(policy, policy_length), policy_length, component, alive, minute, number,
+                                    named, values, out, out_length, detail);
+}
+
 #define zankezurt_open zankezurt_open_bytes
 #define zankezurt_receive zankezurt_receive_bytes
 #define zankezurt_receive_packet zankezurt_receive_packet_bytes
 #define zankezurt_lookup zankezurt_lookup_bytes
+#define zankezurt_encode_message zankezurt_encode_message_bytes
 
 #ifdef __cplusplus
 }

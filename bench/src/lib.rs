@@ -1,6 +1,6 @@
 //! Measures a take of the monitor beside three others: the same algorithm in safe Rust, the direct reading of the definition,
 //! and the floor, which only writes each cell of both sheets once; and a packet beside the takes of its messages. The record is full, and
-//! for a take also empty and known in bunches. And the takes of two archives beside each other.
+//! for a take also empty and known in bunches. And the takes of two archives beside each other; and the two writers.
 
 pub mod contender;
 pub mod growth;
@@ -10,3 +10,4 @@ pub mod placed;
 pub mod plain;
 pub mod timing;
 pub mod workload;
+pub mod writing;

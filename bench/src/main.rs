@@ -1,6 +1,7 @@
-//! Prints what a take and a packet cost: `bench`. `bench packet COUNT` prints a packet of that many messages alone, `bench take NAME
-//! COUNT` only makes the takes, with a full record or with that of a third word: `full`, `empty` or `bunched`, and `bench placed OLD..
-//! NEW..` compares the takes of two archives, each linked at the same places.
+//! Prints what a take, a packet and a text that is written cost: `bench`. `bench packet COUNT` prints a packet of that many messages
+//! alone, `bench writing` the writers alone, `bench take NAME COUNT` only makes the takes, with a full record or with that of a third
+//! word: `full`, `empty` or `bunched`, and `bench placed OLD.. NEW..` compares the takes of two archives, each linked at the same
+//! places.
 
 use bench::contender::{Contender, ALL};
 use bench::growth::{added, points, slope};
@@ -9,6 +10,7 @@ use bench::packet;
 use bench::placed::Placed;
 use bench::timing::{in_turns, ratios, Spread, Take};
 use bench::workload::{Record, Shape, Workload, LARGEST};
+use bench::writing;
 use std::env::args;
 
 /// How many times over each is measured, beside the others and in the growth.
@@ -31,8 +33,9 @@ fn main() {
         ["take", name, count] => takes(name, count.parse().expect("a count"), Record::Full.name()),
         ["take", name, count, record] => takes(name, count.parse().expect("a count"), record),
         ["packet", count] => packets(count.parse().expect("a count")),
+        ["writing"] => written(),
         ["placed", ref libraries @ ..] if libraries.len() % 2 == 0 => placed(libraries),
-        _ => panic!("usage: bench [take NAME COUNT [RECORD] | packet COUNT | placed OLD.. NEW..]"),
+        _ => panic!("usage: bench [take NAME COUNT [RECORD] | packet COUNT | writing | placed OLD.. NEW..]"),
     }
 }
 
@@ -60,6 +63,7 @@ fn report() {
         // one rule, and one proposition: each further line is a since or an until
         Shape { components: 1, subformulas, rules: 1, spacing: 64, ..LARGEST }
     });
+    written();
 }
 
 /// The monitor beside others, with a record.
@@ -151,6 +155,20 @@ fn count(record: Record) {
         }
     }
     println!();
+}
+
+/// A policy of each number of lines, written, and the longest message.
+fn written() {
+    let policies = writing::policies(&[4, 8, 16, 32, 64], SAMPLES);
+    println!("Writing a policy: so many subformulas, most of them with every field");
+    for point in &policies {
+        println!("{:>12} {:>12.3} µs", point.size, point.time * MICRO);
+    }
+    println!("slope on logarithmic scales: of what each doubling adds {:.3}", slope(&added(&policies)));
+    println!(
+        "Writing the longest message: {:.3} µs, with the longest policy read first\n",
+        writing::message(SAMPLES) * MICRO
+    );
 }
 
 /// Growth with one size, the others as they are.

@@ -68,6 +68,27 @@ static void call_lookup(void)
     refusal = zankezurt_lookup(policy, policy_length, state.verdicts, sizeof state.verdicts, RULES - 1, MINUTES - 1, &detail);
 }
 
+/* 64 lines with every field that a line can have, of which the last 8 are rules. */
+static void call_encode_policy(void)
+{
+    static struct zankezurt_line lines[SUBFORMULAS];
+    static uint8_t out[ZANKEZURT_POLICY_LENGTH];
+    lines[0] = (struct zankezurt_line){.kind = 1, .first = PROPOSITIONS - 1};
+    for (uint16_t line = 1; line < SUBFORMULAS; line++) {
+        const uint16_t last = line - 1, rule = line >= SUBFORMULAS - RULES;
+        lines[line] = (struct zankezurt_line){.kind = 5, .first = last, .second = last, .lower = 1, .upper = 1023, .rule = rule};
+    }
+    refusal = zankezurt_encode_policy(PROPOSITIONS, COMPONENTS, MINUTES, SUBFORMULAS, lines, out, sizeof out, &detail);
+}
+
+/* An observation with every field, and all marks named. */
+static void call_encode_message(void)
+{
+    static uint8_t out[ZANKEZURT_MESSAGE_LENGTH];
+    refusal = zankezurt_encode_message(policy, policy_length, COMPONENTS - 1, 0, MINUTES - 1, 65535, UINT32_MAX, UINT32_MAX, out,
+                                       sizeof out, &detail);
+}
+
 /* How far down the stack was written. */
 static size_t written(void (*call)(void))
 {
@@ -97,6 +118,8 @@ static void print(const char *name, void (*call)(void))
 int main(void)
 {
     write_policy();
+    print("zankezurt_encode_message", call_encode_message);
+    print("zankezurt_encode_policy", call_encode_policy);
     print("zankezurt_lookup", call_lookup);
     print("zankezurt_open", call_open);
     print("zankezurt_receive", call_receive);

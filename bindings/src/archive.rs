@@ -1,5 +1,10 @@
 //! The archive's functions, as `include/zankezurt.h` declares them: a slice is a pointer, never null, and a length.
 
+use crate::fields::Line;
+
+/// How many lines there must be memory for where a policy is written.
+pub const LINES: usize = 64;
+
 extern "C" {
     pub fn zankezurt_open(
         policy: *const u8,
@@ -55,6 +60,31 @@ extern "C" {
         verdicts_length: usize,
         rule: usize,
         minute: usize,
+        detail: *mut usize,
+    ) -> u8;
+
+    pub fn zankezurt_encode_policy(
+        propositions: usize,
+        components: usize,
+        minutes: usize,
+        lines: usize,
+        fields: *const [Line; LINES],
+        out: *mut u8,
+        out_length: usize,
+        detail: *mut usize,
+    ) -> u8;
+
+    pub fn zankezurt_encode_message(
+        policy: *const u8,
+        policy_length: usize,
+        component: usize,
+        alive: u8,
+        minute: usize,
+        number: usize,
+        named: u32,
+        values: u32,
+        out: *mut u8,
+        out_length: usize,
         detail: *mut usize,
     ) -> u8;
 

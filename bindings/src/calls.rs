@@ -2,6 +2,7 @@
 #![allow(unsafe_code)]
 
 use crate::archive;
+use crate::fields::{Line, Message};
 use crate::refusal::{Reason, Refusal};
 use core::fmt;
 
@@ -58,12 +59,13 @@ fn answer((number, detail): (u8, usize)) -> Result<usize, Refusal> {
     }
 }
 
-/// Calls a function of the archive: slices that it reads, plain numbers, slices that it writes. Gives its number and its details.
+/// Calls a function of the archive: slices that it reads, plain numbers or references, slices that it writes. Gives its number and its
+/// details.
 macro_rules! call {
     ($function:ident($($read:ident),*; $($number:ident),*; $($written:ident),*; $($detail:ident),*)) => {{
         $(let mut $detail = 0;)*
         // SAFETY: each slice is lent as its own pointer and length: not null, aligned, and nothing else overlaps what is written,
-        // since that is borrowed alone. The details are locals. The call keeps no pointer.
+        // since that is borrowed alone. A reference is to memory of its type. The details are locals. The call keeps no pointer.
         let number = unsafe {
             archive::$function(
                 $($read.as_ptr(), $read.len(),)*
@@ -119,13 +121,44 @@ pub fn lookup(policy: &[u8], verdicts: &[u8], rule: usize, minute: usize) -> Res
     answer(call!(zankezurt_lookup(policy, verdicts; rule, minute;; detail))).map(Verdict::of_code)
 }
 
+/// Writes the policy of these sizes and lines at the start of the lent buffer, and gives its length, at most
+/// [`POLICY_LENGTH`](crate::POLICY_LENGTH). A longer buffer keeps its rest.
+///
+/// What is out of range is refused at place 0: a size or the number of lines (2), a line (3), how many lines are rules (4), and then a
+/// buffer that is shorter than the policy (11). Nothing is written then.
+pub fn encode_policy(
+    propositions: usize,
+    components: usize,
+    minutes: usize,
+    lines: &[Line],
+    out: &mut [u8],
+) -> Result<usize, Refusal> {
+    let count = lines.len();
+    // Of these the archive looks at the first `count`, and at none where they are more.
+    let mut copied = [Line::default(); archive::LINES];
+    copied.iter_mut().zip(lines).for_each(|(place, line)| *place = *line);
+    let fields = &copied;
+    answer(call!(zankezurt_encode_policy(; propositions, components, minutes, count, fields; out; detail)))
+}
+
+/// Writes a message under its policy at the start of the lent buffer, and gives its length, at most
+/// [`MESSAGE_LENGTH`](crate::MESSAGE_LENGTH). A longer buffer keeps its rest.
+///
+/// The policy is checked first (1 to 4, with their places); then fields that are out of range are refused (8), and then a buffer that is
+/// shorter than the message (11). Nothing is written then.
+pub fn encode_message(policy: &[u8], message: Message, out: &mut [u8]) -> Result<usize, Refusal> {
+    let Message { component, alive, minute, number, named, values } = message;
+    let alive = u8::from(alive);
+    answer(call!(zankezurt_encode_message(policy; component, alive, minute, number, named, values; out; detail)))
+}
+
 #[cfg(test)]
 mod tests {
     use super::*;
 
     #[test]
     fn a_number_without_a_name_is_an_error_value() {
-        let refusal = answer((11, 3)).unwrap_err();
-        assert_eq!(refusal, Refusal { reason: Reason::Unnamed(11), place: 3 });
+        let refusal = answer((255, 3)).unwrap_err();
+        assert_eq!(refusal, Refusal { reason: Reason::Unnamed(255), place: 3 });
     }
 }

@@ -61,6 +61,34 @@
 //! # Ok::<(), zankezurt::Refusal>(())
 //! ```
 //!
+//! [`encode_policy`] and [`encode_message`] write what the others read, from numbers and into lent memory too:
+//!
+//! ```
+//! use zankezurt::{encode_message, encode_policy, Line, Message, MESSAGE_LENGTH, POLICY_LENGTH};
+//!
+//! // mark 0 at some time in the last 2 minutes: true, mark 0, and the rule "line 0 since line 1, from 0 to 2 minutes back"
+//! let lines = [
+//!     Line::default(),
+//!     Line { kind: 1, ..Line::default() },
+//!     Line { kind: 4, second: 1, upper: 2, rule: 1, ..Line::default() },
+//! ];
+//! let mut policy = [0; POLICY_LENGTH];
+//! let length = encode_policy(1, 1, 4, &lines, &mut policy)?;
+//! let policy = &policy[..length];
+//! assert_eq!(policy, [0x01, 0x01, 0x04, 0x00, 0x03, 0x00, 0x01, 0x01, 0x35, 0x04, 0x01, 0x02, 0x00]);
+//!
+//! // an observation at minute 2, sequence number 2: mark 0 is true
+//! let observation = Message { minute: 2, number: 2, named: 1, values: 1, ..Message::default() };
+//! let mut message = [0; MESSAGE_LENGTH];
+//! let length = encode_message(policy, observation, &mut message)?;
+//! assert_eq!(message[..length], [0x0E, 0x02, 0x00, 0x02, 0x00, 0x01, 0x00, 0x00, 0x00, 0x01]);
+//!
+//! // the policy has no minute 4
+//! let refusal = encode_message(policy, Message { minute: 4, ..observation }, &mut message).unwrap_err();
+//! assert_eq!(refusal.to_string(), "refused 8 at 0: bad message");
+//! # Ok::<(), zankezurt::Refusal>(())
+//! ```
+//!
 //! Nothing is asked of the arguments: any bytes and any buffers may be lent. What is wrong is refused, with a number and a place, and
 //! a refused call changes nothing; of a packet this is meant of each message, and those taken before the refusal remain taken.
 //! `docs/EMBEDDING.md` has stack, time, threads and power cuts.
@@ -73,13 +101,15 @@ extern crate alloc;
 
 mod archive;
 mod calls;
+mod fields;
 mod refusal;
 #[cfg(feature = "alloc")]
 mod shift;
 mod sizes;
 mod version;
 
-pub use calls::{lookup, open, receive, receive_packet, Packet, Verdict};
+pub use calls::{encode_message, encode_policy, lookup, open, receive, receive_packet, Packet, Verdict};
+pub use fields::{Line, Message, MESSAGE_LENGTH, POLICY_LENGTH};
 pub use refusal::{Reason, Refusal};
 #[cfg(feature = "alloc")]
 pub use shift::Shift;

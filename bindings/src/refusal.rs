@@ -27,13 +27,15 @@ pub enum Reason {
     Conflict,
     /// A look at a rule or minute that the policy doesn't have.
     OutOfRange,
+    /// The lent buffer is shorter than the text.
+    ShortBuffer,
     /// A number that this version of the bindings has no name for: the archive is of another version.
     Unnamed(u8),
 }
 
 impl Reason {
     /// The reasons that have a name, in the order of their numbers.
-    pub const ALL: [Reason; 10] = [
+    pub const ALL: [Reason; 11] = [
         Reason::TruncatedPolicy,
         Reason::BadHeading,
         Reason::BadSubformula,
@@ -44,6 +46,7 @@ impl Reason {
         Reason::BadMessage,
         Reason::Conflict,
         Reason::OutOfRange,
+        Reason::ShortBuffer,
     ];
 
     /// The reason's number, from 1.
@@ -59,6 +62,7 @@ impl Reason {
             Reason::BadMessage => 8,
             Reason::Conflict => 9,
             Reason::OutOfRange => 10,
+            Reason::ShortBuffer => 11,
             Reason::Unnamed(number) => number,
         }
     }
@@ -83,12 +87,14 @@ impl fmt::Display for Reason {
             Reason::BadMessage => "bad message",
             Reason::Conflict => "conflict",
             Reason::OutOfRange => "out of range",
+            Reason::ShortBuffer => "short buffer",
             Reason::Unnamed(_) => "a reason without a name here",
         })
     }
 }
 
-/// A refusal: its reason, and where in the policy, message or packet it was found (0 where the reason has no place).
+/// A refusal: its reason, and where in the policy, message or packet it was found (0 where the reason has no place, and where it is of
+/// fields).
 #[derive(Clone, Copy, Debug, PartialEq, Eq, Hash)]
 pub struct Refusal {
     /// Why the call was turned away.

@@ -1,6 +1,7 @@
-/* Calls from C with empty and NULL bytes, packets, and the version; prints the version. */
+/* Calls from C with empty and NULL bytes, packets, fields to write, and the version; prints the version. */
 #include <stdio.h>
 #include <stdlib.h>
+#include <string.h>
 
 #include "zankezurt.h"
 
@@ -11,6 +12,9 @@ static const uint8_t policy[] = {0x01, 0x01, 0x04, 0x00, 0x03, 0x00, 0x01, 0x01,
 
 static ZANKEZURT_STATE(COMPONENTS, MINUTES, SUBFORMULAS, RULES) state;
 static size_t detail, taken, place;
+
+static struct zankezurt_line fields[64];
+static uint8_t out[ZANKEZURT_POLICY_LENGTH];
 
 static void expect(const char *what, size_t found, size_t expected)
 {
@@ -40,6 +44,87 @@ static uint8_t look_under(const uint8_t *bytes, size_t length)
     return zankezurt_lookup(bytes, length, state.verdicts, sizeof state.verdicts, 0, 0, &detail);
 }
 
+/* The policy's lines, and anything past them. */
+static void fill_fields(void)
+{
+    static const struct zankezurt_line lines[SUBFORMULAS] = {{0, 0, 0, 0, 0, 0}, {1, 0, 0, 0, 0, 0}, {4, 0, 1, 0, 2, 1}};
+    memset(fields, 0xFF, sizeof fields);
+    memcpy(fields, lines, sizeof lines);
+}
+
+/* Writes a policy of so many lines into a buffer of so many bytes. */
+static uint8_t encode_policy(size_t lines, size_t length)
+{
+    memset(out, 0x5A, sizeof out);
+    return zankezurt_encode_policy(1, COMPONENTS, MINUTES, lines, fields, out, length, &detail);
+}
+
+/* Writes an observation of a component at minute 0, or an alive. */
+static uint8_t encode_message(const uint8_t *bytes, size_t length, size_t component, uint8_t alive)
+{
+    memset(out, 0x5A, sizeof out);
+    return zankezurt_encode_message(bytes, length, component, alive, 0, alive ? 0 : 65535, 0, 0, out, sizeof out, &detail);
+}
+
+/* The buffer holds these bytes, and after them what it held. */
+static void expect_written(const char *what, const uint8_t *bytes, size_t length)
+{
+    uint8_t expected[sizeof out];
+    memset(expected, 0x5A, sizeof expected);
+    memcpy(expected, bytes, length);
+    expect(what, memcmp(out, expected, sizeof expected) == 0, 1);
+}
+
+static void write_policies(void)
+{
+    expect("a line's size", sizeof (struct zankezurt_line), 12);
+    fill_fields();
+    expect("the policy's fields", encode_policy(SUBFORMULAS, sizeof out), ZANKEZURT_ACCEPTED);
+    expect("its length", detail, sizeof policy);
+    expect_written("its bytes", policy, sizeof policy);
+    expect("a buffer of its length", encode_policy(SUBFORMULAS, sizeof policy), ZANKEZURT_ACCEPTED);
+    expect_written("its bytes there", policy, sizeof policy);
+    expect("a shorter one", encode_policy(SUBFORMULAS, sizeof policy - 1), ZANKEZURT_SHORT_BUFFER);
+    expect("its place", detail, 0);
+    expect_written("a buffer that is too short", policy, 0);
+    detail = 1;
+    expect("a buffer of length 0", encode_policy(SUBFORMULAS, 0), ZANKEZURT_SHORT_BUFFER);
+    expect("its place", detail, 0);
+
+    fields[SUBFORMULAS - 1].rule = 256;
+    expect("a rule by another number", encode_policy(SUBFORMULAS, sizeof out), ZANKEZURT_ACCEPTED);
+    expect_written("its bytes", policy, sizeof policy);
+    expect("a line of anything", encode_policy(SUBFORMULAS + 1, sizeof out), ZANKEZURT_BAD_SUBFORMULA);
+    expect("no rule", encode_policy(SUBFORMULAS - 1, sizeof out), ZANKEZURT_RULE_COUNT);
+    expect("no line", encode_policy(0, sizeof out), ZANKEZURT_BAD_HEADING);
+    expect("65 lines", encode_policy(65, sizeof out), ZANKEZURT_BAD_HEADING);
+    expect("3 lines and 256", encode_policy(SUBFORMULAS + 256, sizeof out), ZANKEZURT_BAD_HEADING);
+    expect("very many lines", encode_policy(SIZE_MAX, sizeof out), ZANKEZURT_BAD_HEADING);
+    expect_written("a buffer for what is refused", policy, 0);
+}
+
+static void write_messages(void)
+{
+    static const uint8_t alive[] = {0x10}, observation[] = {0x04, 0xFF, 0xFF};
+
+    detail = 1;
+    expect("a message under NULL", encode_message(NULL, 0, 0, 0), ZANKEZURT_TRUNCATED_POLICY);
+    expect("its place", detail, 0);
+    expect("under a policy that is cut", encode_message(policy, 12, 0, 0), ZANKEZURT_TRUNCATED_POLICY);
+    expect("its place", detail, 12);
+    expect("component 256", encode_message(policy, sizeof policy, 256, 0), ZANKEZURT_BAD_MESSAGE);
+    expect("its place", detail, 0);
+    expect_written("a buffer for what is refused", observation, 0);
+    expect("an observation", encode_message(policy, sizeof policy, 0, 0), ZANKEZURT_ACCEPTED);
+    expect("its length", detail, sizeof observation);
+    expect_written("its bytes", observation, sizeof observation);
+    for (int number = 1; number < 256; number++) {
+        expect("an alive", encode_message(policy, sizeof policy, 0, (uint8_t)number), ZANKEZURT_ACCEPTED);
+        expect("its length", detail, sizeof alive);
+        expect_written("its bytes", alive, sizeof alive);
+    }
+}
+
 int main(void)
 {
     static const uint8_t alive[] = {0x10}, packet[] = {0x10, 0x10, 0x00, 0x10};
@@ -67,6 +152,9 @@ int main(void)
     expect("a packet with a bad one", receive_packet(packet, sizeof packet), ZANKEZURT_BAD_MESSAGE);
     expect("how many were taken before it", taken, 2);
     expect("its place", place, 2);
+
+    write_policies();
+    write_messages();
 
     expect("the archive's version", zankezurt_version(), ZANKEZURT_VERSION);
     printf("version %d\n", ZANKEZURT_VERSION);

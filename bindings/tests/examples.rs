@@ -1,4 +1,4 @@
-//! Both examples, in C and in Rust, print the sheet of the small shift.
+//! The examples of the small shift, in C and in Rust, print its sheet; the one that writes prints what it writes.
 
 mod common;
 
@@ -6,15 +6,33 @@ use common::{build_program, text};
 use std::path::Path;
 use std::process::Command;
 
-fn assert_prints_the_small_shift(program: &Path) {
+/// The policy of the small shift, two of its messages, and the verdicts after them.
+const WRITTEN: &str = "\
+policy 01 01 04 00 03 00 01 01 35 04 01 02 00
+message 0C 01 00 01 00 00 00 00
+message 0E 02 00 02 00 01 00 00 00 01
+0 0 broken
+2 0 kept
+";
+
+fn assert_prints(program: &Path, expected: &str) {
     let output = Command::new(program).output().unwrap_or_else(|why| panic!("{}: {why}", program.display()));
     assert!(output.status.success());
-    assert_eq!(String::from_utf8(output.stdout).unwrap(), text("demo/small-shift.txt"));
+    assert_eq!(String::from_utf8(output.stdout).unwrap(), expected);
+}
+
+fn assert_prints_the_small_shift(program: &Path) {
+    assert_prints(program, &text("demo/small-shift.txt"));
 }
 
 #[test]
 fn the_example_in_c() {
     assert_prints_the_small_shift(&build_program("examples/small_shift.c", "small_shift_c"));
+}
+
+#[test]
+fn the_example_that_writes_in_c() {
+    assert_prints(&build_program("examples/written_shift.c", "written_shift_c"), WRITTEN);
 }
 
 #[cfg(feature = "alloc")]

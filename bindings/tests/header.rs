@@ -1,10 +1,10 @@
-//! The header, the bindings, the archive and the README agree: refusals by name and number, and the version.
+//! The header, the bindings, the archive and the README agree: refusals by name and number, the longest texts, and the version.
 
 mod common;
 
 use common::{build_program, text};
 use std::process::Command;
-use zankezurt::{version, Reason, VERSION};
+use zankezurt::{version, Reason, MESSAGE_LENGTH, POLICY_LENGTH, VERSION};
 
 /// Number and name of every reason of the bindings.
 fn expected() -> Vec<(u8, String)> {
@@ -38,12 +38,26 @@ fn the_readme_has_the_reasons_of_the_bindings() {
     assert_eq!(found, expected());
 }
 
+/// The number for which the header defines a name.
+fn defined(name: &str) -> usize {
+    let header = text("include/zankezurt.h");
+    let (_, after) = header.split_once(&format!("#define {name} ")).unwrap();
+    after.split_whitespace().next().unwrap().parse().unwrap()
+}
+
+#[test]
+fn the_header_has_the_longest_texts_of_the_bindings() {
+    assert_eq!(defined("ZANKEZURT_POLICY_LENGTH"), POLICY_LENGTH);
+    assert_eq!(defined("ZANKEZURT_MESSAGE_LENGTH"), MESSAGE_LENGTH);
+}
+
 #[test]
 fn the_archive_is_of_the_bindings_version() {
     assert_eq!(version(), VERSION);
 }
 
-/// The header's version, the archive's, and calls with empty and NULL bytes and packets, from C; it stops at the first that is wrong.
+/// The header's version, the archive's, and calls with empty and NULL bytes, packets and fields to write, from C; it stops at the first
+/// that is wrong.
 #[test]
 fn the_calls_from_c() {
     let said = Command::new(build_program("bindings/tests/calls.c", "calls")).output().unwrap();

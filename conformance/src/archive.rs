@@ -1,7 +1,9 @@
 //! The archive's calls, through the bindings, over the oracle's types.
 
 use oracle::reading::Verdict;
+use oracle::write::{self, MessageFields, PolicyFields};
 use oracle::{Answer, Buffers, Look, PacketAnswer, Refusal};
+use zankezurt::{Line, Message};
 
 pub fn open(policy: &[u8], buffers: &mut Buffers) -> Answer {
     let Buffers { numbers, facts, valuation, verdicts } = buffers;
@@ -32,6 +34,24 @@ pub fn lookup(policy: &[u8], verdicts: &[u8], rule: usize, minute: usize) -> Loo
         Ok(zankezurt::Verdict::Violated) => Look::Verdict(Verdict::Violated),
         Err(refusal) => Look::Refused(refused(refusal)),
     }
+}
+
+pub fn encode_policy(fields: &PolicyFields, out: &mut [u8]) -> Result<usize, Refusal> {
+    let PolicyFields { propositions, components, minutes, lines } = fields;
+    let lines: Vec<Line> = lines.iter().map(line).collect();
+    zankezurt::encode_policy(*propositions, *components, *minutes, &lines, out).map_err(refused)
+}
+
+/// A line as the archive is given it.
+pub fn line(line: &write::Line) -> Line {
+    let write::Line { kind, first, second, lower, upper, rule } = *line;
+    Line { kind, first, second, lower, upper, rule: rule.into() }
+}
+
+pub fn encode_message(policy: &[u8], fields: &MessageFields, out: &mut [u8]) -> Result<usize, Refusal> {
+    let MessageFields { component, alive, minute, number, named, values } = *fields;
+    let message = Message { component, alive, minute, number, named, values };
+    zankezurt::encode_message(policy, message, out).map_err(refused)
 }
 
 fn refused(refusal: zankezurt::Refusal) -> Refusal {

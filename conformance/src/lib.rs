@@ -1,5 +1,5 @@
 //! Calls the archive and the oracle with the same bytes. They must agree in all that they give: answer, number, place and
-//! every cell of the four buffers.
+//! every cell of the four buffers, or of the one that a policy or a message is written into.
 //!
 //! A difference panics with the whole input, so that it can be kept as a test. `ZANKEZURT_ROUNDS`, a number, makes every
 //! random test that many times longer, on inputs that a shorter run does not see.
@@ -10,7 +10,8 @@ pub mod inputs;
 pub mod process;
 pub mod rounds;
 
-use oracle::{Answer, Buffers, Look, PacketAnswer};
+use oracle::write::{MessageFields, PolicyFields};
+use oracle::{Answer, Buffers, Look, PacketAnswer, Refusal};
 use std::fmt::Debug;
 
 /// Opens on both sides; a refusal must have changed nothing.
@@ -47,6 +48,42 @@ pub fn lookup(policy: &[u8], verdicts: &[u8], rule: usize, minute: usize) -> Loo
         "archive {look:?}, oracle {expected:?}\nlookup of rule {rule}, minute {minute}\npolicy {policy:?}\n{verdicts:?}"
     );
     look
+}
+
+/// Writes a policy on both sides; a refusal must have changed nothing.
+pub fn encode_policy(fields: &PolicyFields, out: &mut [u8]) -> Result<usize, Refusal> {
+    let call = || format!("encode_policy\n{fields:?}");
+    let archive = |out: &mut [u8]| archive::encode_policy(fields, out);
+    both_write(call, out, archive, |out| oracle::encode_policy(fields, out))
+}
+
+/// Writes a message on both sides; a refusal must have changed nothing.
+pub fn encode_message(policy: &[u8], fields: &MessageFields, out: &mut [u8]) -> Result<usize, Refusal> {
+    let call = || format!("encode_message\npolicy {policy:?}\n{fields:?}");
+    let archive = |out: &mut [u8]| archive::encode_message(policy, fields, out);
+    both_write(call, out, archive, |out| oracle::encode_message(policy, fields, out))
+}
+
+/// How many bytes stand on each side of those that the archive is lent.
+const MARGIN: usize = 16;
+
+/// Calls the archive and the oracle on copies of the buffer, the archive's between bytes that it must keep.
+fn both_write(
+    call: impl Fn() -> String,
+    out: &mut [u8],
+    archive: impl Fn(&mut [u8]) -> Result<usize, Refusal>,
+    oracle: impl Fn(&mut [u8]) -> Result<usize, Refusal>,
+) -> Result<usize, Refusal> {
+    let margin = [0x5A; MARGIN];
+    let mut lent = [&margin, &*out, &margin].concat();
+    let mut expected = out.to_vec();
+    let answer = archive(&mut lent[MARGIN..MARGIN + out.len()]);
+    let expected_answer = oracle(&mut expected);
+    let same = answer == expected_answer && lent == [&margin, &*expected, &margin].concat();
+    assert!(same, "archive {answer:?} {lent:?}, oracle {expected_answer:?} {expected:?}\n{}\nbefore {out:?}", call());
+    assert!(answer.is_ok() || *out == expected, "{answer:?} and changed\n{}\nbefore {out:?}", call());
+    out.copy_from_slice(&expected);
+    answer
 }
 
 /// Calls the archive on the buffers and the oracle on a copy of them. Some answers tell that nothing was changed.

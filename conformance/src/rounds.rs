@@ -1,7 +1,7 @@
 //! How long the random tests run, on all cores, and what they have seen.
 
 use oracle::generate::Random;
-use oracle::{Answer, Look, PacketAnswer};
+use oracle::{Answer, Look, PacketAnswer, Refusal};
 use std::collections::BTreeMap;
 use std::sync::atomic::{AtomicUsize, Ordering};
 use std::{env, panic, thread};
@@ -49,6 +49,14 @@ impl Seen {
         match look {
             Look::Verdict(verdict) => self.one(&format!("lookup {verdict:?}")),
             Look::Refused(refusal) => self.one(&format!("lookup refused {}", refusal.number)),
+        }
+    }
+
+    /// Whether it was written or refused, and why.
+    pub fn writing(&mut self, what: &str, answer: Result<usize, Refusal>) {
+        match answer {
+            Ok(_) => self.one(&format!("{what} written")),
+            Err(refusal) => self.one(&format!("{what} refused {}", refusal.number)),
         }
     }
 

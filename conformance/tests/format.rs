@@ -4,6 +4,7 @@ use conformance::inputs::{self, Size};
 use conformance::process::{printed, root, show};
 use oracle::generate::Random;
 use oracle::reading::Verdict;
+use oracle::write::MessageFields;
 use oracle::{Answer, Buffers, Look, PacketAnswer, Refusal};
 use std::fs;
 use std::process::Command;
@@ -177,6 +178,26 @@ fn the_packets_are_answered_as_the_document_says() {
         let answer = conformance::receive_packet(&policy, &cell_bytes(&row[0]), &mut opened(&policy));
         let refusal = (row[2] != "no").then(|| refusal(&row[2]));
         assert_eq!(answer, PacketAnswer { taken: row[1].parse().unwrap(), refusal }, "{row:?}");
+    }
+}
+
+#[test]
+fn the_messages_are_written_as_the_document_says() {
+    let policy = small_policy();
+    for row in rows(&section("## Writing"), "| component |") {
+        let number = |column: usize| row[column].parse().unwrap();
+        let fields = MessageFields {
+            component: number(0),
+            alive: row[1] == "yes",
+            minute: number(2),
+            number: number(3),
+            named: number(4) as u32,
+            values: number(5) as u32,
+        };
+        let mut out = [0; 10];
+        let answer = conformance::encode_message(&policy, &fields, &mut out).map(|length| out[..length].to_vec());
+        let expected = if row[6].starts_with('`') { Ok(cell_bytes(&row[6])) } else { Err(refusal(&row[6])) };
+        assert_eq!(answer, expected, "{row:?}");
     }
 }
 

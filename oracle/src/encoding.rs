@@ -46,6 +46,26 @@ pub fn read_fields(bytes: &[u8], place: usize, sizes: &[usize]) -> Option<Fields
     Some(fields)
 }
 
+/// The bit map and the fields of these values, "with only its non-zero fields"; `flags` are the map's bits that are no
+/// field's. Each value fits its size.
+pub fn write_fields(flags: u8, values: &[usize], sizes: &[usize]) -> Vec<u8> {
+    let mut map = flags;
+    let mut fields = Vec::new();
+    for (bit, (value, size)) in values.iter().zip(sizes).enumerate() {
+        if *value != 0 {
+            map |= 1 << bit;
+            fields.extend(little_endian_bytes(*value, *size));
+        }
+    }
+    [vec![map], fields].concat()
+}
+
+/// The number in so many bytes, the lowest byte first.
+pub fn little_endian_bytes(number: usize, size: usize) -> Vec<u8> {
+    let places = (0..size as u32).map(|place| number / 256usize.pow(place));
+    places.map(|number| (number % 256) as u8).collect()
+}
+
 /// The number that these bytes are, the lowest byte first.
 pub fn little_endian(bytes: &[u8]) -> usize {
     bytes.iter().rev().fold(0, |number, byte| number * 256 + *byte as usize)

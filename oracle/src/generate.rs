@@ -1,9 +1,10 @@
-//! Random policies, traces, messages, damage and program inputs, the same for the same seed.
+//! Random policies, traces, messages, fields, damage and program inputs, the same for the same seed.
 
 use crate::knowledge::{Buffers, NOT_KNOWN};
 use crate::message::{Event, Message, ALIVE_BIT};
 use crate::policy::*;
 use crate::trace::Trace;
+use crate::write::{Line, MessageFields, PolicyFields};
 
 /// A small generator of numbers (splitmix64).
 pub struct Random {
@@ -197,20 +198,10 @@ impl RawPolicy {
 }
 
 fn raw_line(subformula: &Subformula) -> Encoding {
-    let temporal = |kind, parts: Temporal| [kind, parts.first, parts.second, parts.lower, parts.upper];
-    let [kind, first, second, lower, upper] = match subformula.formula {
-        Formula::True => [0, 0, 0, 0, 0],
-        Formula::Proposition(first) => [1, first, 0, 0, 0],
-        Formula::Not(first) => [2, first, 0, 0, 0],
-        Formula::Or(first, second) => [3, first, second, 0, 0],
-        Formula::Since(parts) => temporal(4, parts),
-        Formula::Until(parts) => temporal(5, parts),
-    };
-    Encoding {
-        flags: u8::from(subformula.rule) << RULE_BIT,
-        fields: vec![(kind, 1), (first, 1), (second, 1), (lower, 2), (upper, 2)],
-        forced: 0,
-    }
+    let Line { kind, first, second, lower, upper, rule } = Line::from(subformula);
+    let fields = [(kind, 1), (first, 1), (second, 1), (lower, 2), (upper, 2)];
+    let fields = fields.map(|(value, size)| (usize::from(value), size)).to_vec();
+    Encoding { flags: u8::from(rule) << RULE_BIT, fields, forced: 0 }
 }
 
 /// The bytes of a policy.
@@ -220,11 +211,8 @@ pub fn encode_policy(policy: &Policy) -> Vec<u8> {
 
 /// The bytes of a message.
 pub fn encode_message(message: &Message) -> Vec<u8> {
-    let (flags, minute, number, named, values) = match message.event {
-        Event::Observation { minute, number, named, values } => (0, minute, number, named, values),
-        Event::Alive { minute, number } => (1 << ALIVE_BIT, minute, number, 0, 0),
-    };
-    let mut bytes = message_encoding(flags, message.component, minute, number, named).bytes();
+    let MessageFields { component, alive, minute, number, named, values } = MessageFields::from(message);
+    let mut bytes = message_encoding(u8::from(alive) << ALIVE_BIT, component, minute, number, named).bytes();
     bytes.extend(value_bytes(named, values));
     bytes
 }
@@ -398,6 +386,99 @@ fn stray_rules(random: &mut Random, raw: &mut RawPolicy) {
     for (number, line) in raw.lines.iter_mut().enumerate() {
         line.flags = u8::from(number < rules) << RULE_BIT;
     }
+}
+
+/// The policy's fields with up to three of them at, or past, an end of their ranges, lines too many or too few, or other
+/// rules. Some are still right.
+pub fn stray_policy_fields(random: &mut Random, policy: &Policy) -> PolicyFields {
+    let mut fields = PolicyFields::from(policy);
+    for _ in 0..random.below(4) {
+        match random.below(8) {
+            0 => stray_sizes(random, &mut fields),
+            1 | 2 => stray_rule_fields(random, &mut fields.lines),
+            _ => stray_line(random, &mut fields.lines),
+        }
+    }
+    fields
+}
+
+fn stray_sizes(random: &mut Random, fields: &mut PolicyFields) {
+    let near = |random: &mut Random, value: usize, most: usize| {
+        random.pick(&[0, 1, most, most, most + 1, value.wrapping_add(256), value.wrapping_add(65536), usize::MAX])
+    };
+    match random.below(4) {
+        0 => fields.propositions = near(random, fields.propositions, MOST_PROPOSITIONS),
+        1 => fields.components = near(random, fields.components, MOST_COMPONENTS),
+        2 => fields.minutes = near(random, fields.minutes, MOST_MINUTES),
+        _ => {
+            let lines = fields.lines.len();
+            let lines = random.pick(&[
+                0,
+                1,
+                lines.saturating_sub(1),
+                lines + 1,
+                MOST_SUBFORMULAS,
+                MOST_SUBFORMULAS + 1,
+                lines + 256,
+            ]);
+            fields.lines.resize(lines, Line::default());
+        }
+    }
+}
+
+fn stray_line(random: &mut Random, lines: &mut [Line]) {
+    if lines.is_empty() {
+        return;
+    }
+    let number = random.below(lines.len());
+    let near = (number as u16).saturating_sub(1);
+    let Line { kind, first, second, lower, upper, .. } = &mut lines[number];
+    let (field, ends) = match random.below(5) {
+        0 => (kind, [0, 1, 2, 3, 4, 5, 6, 255]),
+        1 => (first, [0, near, near + 1, near + 2, 31, 32, 255, 256]),
+        2 => (second, [0, near, near + 1, near + 2, 31, 32, 255, 256]),
+        3 => (lower, [0, 0, 1, 2, 255, 256, 1023, 1024]),
+        _ => (upper, [0, 1, 2, 1022, 1023, 1023, 1024, 65535]),
+    };
+    *field = if random.once_in(6) { field.wrapping_add(256) } else { random.pick(&ends) };
+}
+
+fn stray_rule_fields(random: &mut Random, lines: &mut [Line]) {
+    let rules = random.pick(&[0, 1, MOST_RULES, MOST_RULES + 1]);
+    lines.iter_mut().enumerate().for_each(|(number, line)| line.rule = number < rules);
+}
+
+/// The fields of a message, each of them once in six times at, just below or past an end of its range. Some are right.
+pub fn stray_message_fields(random: &mut Random, policy: &Policy) -> MessageFields {
+    let (components, minutes) = (policy.components, policy.minutes);
+    let alive = random.once_in(3);
+    let named = if alive { 0 } else { random.word() as u32 & random.word() as u32 & all_propositions(policy) };
+    let mut fields = MessageFields {
+        component: random.below(components),
+        alive,
+        minute: random.below(minutes),
+        number: random.between(1, minutes),
+        named,
+        values: random.word() as u32 & named,
+    };
+    if random.once_in(6) {
+        fields.component = random.pick(&[0, components - 1, components, components + 255, 256, usize::MAX]);
+    }
+    if random.once_in(6) {
+        fields.minute = random.pick(&[0, minutes - 1, minutes, minutes + 1, minutes + 65535, usize::MAX]);
+    }
+    if random.once_in(6) {
+        fields.number = random.pick(&[0, 65534, 65535, 65536, 65537, usize::MAX]);
+    }
+    if random.once_in(6) {
+        let bit = 1 << random.below(32);
+        fields.named = random.pick(&[0, bit, named | bit, u32::MAX]);
+    }
+    if random.once_in(6) {
+        let bit = 1 << random.below(32);
+        fields.values = random.pick(&[0, bit, named, u32::MAX]);
+    }
+    fields
 }
 
 /// Changes a few cells, of the knowledge and of the sheets.

@@ -9,16 +9,17 @@
 //! | `truth` | the three truth values |
 //! | `encoding` | what the formats of policy and message share |
 //! | `policy`, `message` | the two readers |
+//! | `write` | the two writers |
 //! | `trace` | one run of the components, and what it could have sent |
 //! | `knowledge` | the four buffers: soundness, what a message fixes, conflicts, known time points, searches |
 //! | `reading` | the three-valued and the two-valued reading, and the verdicts |
 //! | `monitor` | the calls: open, receive, receive_packet, lookup |
 //! | `program` | the printing program |
 //! | `brute` | every trace of a tiny policy, and what must hold over all of them |
-//! | `generate` | random policies, messages, traces, damage and program inputs |
+//! | `generate` | random policies, messages, traces, fields, damage and program inputs |
 //!
 //! A harness that links the monitor calls both with the same bytes and compares [`Answer`] or [`PacketAnswer`], and
-//! [`Buffers`], after every call.
+//! [`Buffers`], after every call; of a writer the length or refusal, and the lent buffer.
 #![forbid(unsafe_code)]
 
 pub mod brute;
@@ -33,8 +34,10 @@ pub mod reading;
 pub mod refusal;
 pub mod trace;
 pub mod truth;
+pub mod write;
 
 pub use knowledge::Buffers;
 pub use monitor::{lookup, open, receive, receive_packet, Answer, Look, PacketAnswer};
 pub use policy::Policy;
 pub use refusal::Refusal;
+pub use write::{encode_message, encode_policy};

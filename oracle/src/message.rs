@@ -5,7 +5,7 @@ use crate::policy::Policy;
 use crate::refusal::*;
 
 /// The sizes in bytes of component, minute, sequence number and proposition map, in the order of their bits.
-const FIELD_SIZES: [usize; 4] = [1, 2, 2, 4];
+pub const FIELD_SIZES: [usize; 4] = [1, 2, 2, 4];
 pub const COMPONENT: usize = 0;
 pub const MINUTE: usize = 1;
 pub const NUMBER: usize = 2;

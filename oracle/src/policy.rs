@@ -18,7 +18,7 @@ pub const SUBFORMULA_LENGTH: usize = 8;
 pub const MOST_BYTES: usize = HEADING_LENGTH + MOST_SUBFORMULAS * SUBFORMULA_LENGTH;
 
 /// The sizes in bytes of kind, first, second, lower and upper, in the order of their bits.
-const FIELD_SIZES: [usize; 5] = [1, 1, 1, 2, 2];
+pub const FIELD_SIZES: [usize; 5] = [1, 1, 1, 2, 2];
 pub const KIND: usize = 0;
 pub const FIRST: usize = 1;
 pub const SECOND: usize = 2;

@@ -20,6 +20,8 @@ pub const BAD_MESSAGE: u8 = 8;
 pub const CONFLICT: u8 = 9;
 /// Off the sheet: rule or minute not of the policy.
 pub const OUT_OF_RANGE: u8 = 10;
+/// Short paper: the lent buffer is shorter than the text.
+pub const SHORT_BUFFER: u8 = 11;
 
 /// Why a call was turned away. The place is 0 where document 01's table says 0.
 #[derive(Clone, Copy, Debug, PartialEq, Eq)]

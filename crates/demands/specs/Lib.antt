@@ -10,3 +10,4 @@ pub mod Stops
 pub mod Packets
 pub mod Small
 pub mod Past
+pub mod Writers

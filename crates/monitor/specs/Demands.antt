@@ -1,5 +1,5 @@
 -- What was demanded, as types. Read this file first; each statement stands below the sentence that it formalises. `demand-1`, `demand-2`,
--- `demand-3`, `packets` and `demand-3-packets` of the crate demands have these types.
+-- `demand-3`, `packets`, `demand-3-packets` and `writers` of the crate demands have these types.
 --
 -- s are the bytes of a card, any bytes; `policy-of s` is what they say where they are accepted. x is a state: the four lent buffers, of any
 -- length and content. b are the bytes of a slip, any bytes; where packets are spoken of, b are the bytes of a packet and m those of a slip in it.
@@ -21,8 +21,15 @@ use Rattle.refusal.specs.Checks.{Refused-with}
 use Rattle.policy.specs.declared.Sizes.{Sizes}
 use Rattle.policy.specs.declared.Policy.{Policy}
 use Rattle.policy.specs.Format.{policy-of, count-of, rules-up-to}
+use Rattle.policy.specs.declared.PolicyNumbers.{PolicyNumbers}
+use Rattle.policy.specs.Format.{answer-of as policy-answer}
+use Rattle.policy.specs.Text.{encode-of as encode-policy}
+use Rattle.policy.specs.Written.{Encode-causes as Policy-encoded, Round-trip as Policy-round-trip}
 use Rattle.policy.specs.Proper.{formula-at, rules-of, Between, Cut, Misheaded, Misformed, Whole}
+use Rattle.message.specs.declared.MessageNumbers.{MessageNumbers}
 use Rattle.message.specs.Format.{length-of, messages-of}
+use Rattle.message.specs.Text.{encode-of as encode-message}
+use Rattle.message.specs.Written.{Encode-causes as Message-encoded, Sizes-in, Round-trip as Message-round-trip, Encodes}
 use Rattle.message.specs.Packet.{Packed}
 use Rattle.message.specs.Encoded.{Is-message}
 use Rattle.message.specs.Fixes.{Message, Fixes-number, Fixes-fact, Well-formed, meaning-of}
@@ -383,3 +390,18 @@ pub record Demand-3-packets : Type 0 where
       → ((b : List ℕ) → Brought b xs ↔ Offered b (takes-of s x xs))
       × Same s x y (takes-of s x xs) (takes-of s y ys)
       × (after-entries s x xs ≡ after-entries s y ys)
+
+-- ---- writing (02, request 3)
+
+-- "Given the fields (for a slip also its card, checked first), write the card or slip with only its non-zero fields and give its length." The fields are
+-- numbers, p of a card and n of a slip; which are in range is said of them alone, in 01's words, in `policy/specs/Text` and `message/specs/Text`, and so
+-- is the text that is written for them. The records are those of `Written` in the two crates, where each line stands below its sentence.
+pub record Writers : Type 0 where
+  -- "Out-of-range fields are refused with the reader's numbers 2, 3, 4 and 8, in that order, at place 0. Checks: 11, short paper, when the lent buffer is
+  -- shorter than the text, tested after those; nothing is written then": each is answered exactly for its own cause
+  pub policy-causes : (p : PolicyNumbers) (out : List ℕ) → Policy-encoded p out (encode-policy p out)
+  pub message-causes : (s : List ℕ) (n : MessageNumbers) (out : List ℕ) → Message-encoded s n out (encode-message s n out)
+  -- "Reading gives the fields again, and writing an accepted card or slip gives its own bytes"; and the readers accept the texts and no other bytes
+  pub policies : Policy-round-trip
+  pub messages : (z : Sizes) → Sizes-in z → Message-round-trip z
+  pub under-policy : (s : List ℕ) → policy-answer s ≡ C.Accepted → Sizes-in (sizes-of s) × Encodes s

@@ -1,2 +1,3 @@
 -- What the proofs of the exported calls share.
 mod Handing
+mod Lending

@@ -1,5 +1,16 @@
 -- What the exported calls give, for C and Rust: a number, a detail beside it, and the lent buffers.
-use Prim.Native.Nat.{ℕ}
+use Prim.Native.Nat.{ℕ, zero, suc, _+_, _*_}
+use mathlib.Core.Bool.{not}
+use mathlib.Core.List.{List, [], _∷_, _++_}
+use lib.Dec.{eqb}
+use lib.ListN.{getD}
+use Rattle.refusal.specs.declared.Written.{Written}
+use Rattle.refusal.specs.declared.Written.the-variants as W
+use Rattle.refusal.specs.Writes.{Output}
+use Rattle.policy.specs.declared.LineNumbers.{LineNumbers}
+use Rattle.policy.specs.declared.PolicyNumbers.{PolicyNumbers}
+use Rattle.policy.specs.Text.{numbered}
+use Rattle.message.specs.declared.MessageNumbers.{MessageNumbers}
 use Rattle.refusal.specs.Numbers.{refusal-number, refusal-place}
 use Rattle.monitor.specs.declared.Answer.{Answer}
 use Rattle.monitor.specs.declared.Answer.the-variants.{Done, Received, Refused}
@@ -59,3 +70,44 @@ look-number (L.Refused r) = refusal-number r
 abbrev pub look-detail : Look → ℕ
 look-detail (L.Shows v) = verdict-code v
 look-detail (L.Refused r) = refusal-place r
+
+-- ---- the writers (02, request 3)
+
+-- 0 where the text is written, and else the refusal's number; the detail is the text's length, or the refusal's place
+abbrev pub written-number : Written → ℕ
+written-number (W.Length n) = 0
+written-number (W.Refused r) = refusal-number r
+
+abbrev pub written-detail : Written → ℕ
+written-detail (W.Length n) = n
+written-detail (W.Refused r) = refusal-place r
+
+-- the number, the detail, and the buffer it leaves
+pub record Returned-text : Type 0 where
+  pub number : ℕ
+  pub detail : ℕ
+  pub out : List ℕ
+
+abbrev pub returned-text : Output → Returned-text
+returned-text o = record { number = written-number (o .answer); detail = written-detail (o .answer); out = o .out }
+
+-- a line is six numbers, one after another: kind, first, second, lower, upper, and any but 0 for a rule
+abbrev pub line-at : List ℕ → ℕ → LineNumbers
+line-at f i =
+    numbered (getD f (i * 6) 0) (getD f (i * 6 + 1) 0) (getD f (i * 6 + 2) 0) (getD f (i * 6 + 3) 0) (getD f (i * 6 + 4) 0)
+    (not (eqb (getD f (i * 6 + 5) 0) 0))
+
+-- the first n lines
+unfoldable pub lines-from : List ℕ → ℕ → List LineNumbers
+lines-from f zero = []
+lines-from f (suc n) = lines-from f n ++ (line-at f n ∷ [])
+
+-- the numbers of a policy, as C lends them: 64 lines, of which there are `count`
+abbrev pub policy-numbers : ℕ → ℕ → ℕ → ℕ → List ℕ → PolicyNumbers
+policy-numbers propositions components minutes count f =
+    record { propositions = propositions; components = components; minutes = minutes; count = count; lines = lines-from f 64 }
+
+-- those of a message: any number but 0 for an alive slip
+abbrev pub message-numbers : ℕ → ℕ → ℕ → ℕ → ℕ → ℕ → MessageNumbers
+message-numbers component alive minute number named values =
+    record { component = component; alive = not (eqb alive 0); minute = minute; number = number; named = named; values = values }

@@ -1,14 +1,28 @@
-// The calls of monitor for C and Rust, on numbers and slices. Each gives a number, 0 where the call is not refused and else the refusal's, and
-// writes a detail: a refusal's place, how many verdicts stand after a take, the code of the verdict that a look shows. A packet writes two: how
-// many messages were taken, and the refusal's place.
+// The calls of monitor and the two writers for C and Rust, on numbers and slices. Each gives a number, 0 where the call is not refused and else the
+// refusal's, and writes a detail: a refusal's place, how many verdicts stand after a take, the code of the verdict that a look shows, the length of a
+// text that is written. A packet writes two: how many messages were taken, and the refusal's place.
+use message::MessageNumbers;
 use monitor::Answer;
 use monitor::Look;
 use monitor::Stop;
 use monitor::Verdict;
+use policy::LineNumbers;
+use policy::PolicyNumbers;
+use refusal::Written;
 ghost use mathlib.Core.Path.{_≡_};
+ghost use Prim.Native.Nat.{_<_};
 ghost use Rattle.monitor.specs.State.{lent, open-state, receive, receive-packet};
 ghost use Rattle.monitor.specs.Lookup.{verdict-code, lookup-of};
-ghost use Rattle.monitor_c.specs.Returned.{number-of, detail-of, Returned, returned, stop-number, stop-place, Returned-packet, returned-packet, look-number, look-detail};
+ghost use Rattle.policy.specs.Text.{encode-of as encode-policy};
+ghost use Rattle.message.specs.Text.{encode-of as encode-message};
+ghost use Rattle.monitor_c.specs.Returned.{number-of, detail-of, Returned, returned, stop-number, stop-place, Returned-packet, returned-packet, look-number, look-detail, written-number, written-detail, Returned-text, returned-text, line-at, lines-from, policy-numbers, message-numbers};
+
+// How many lines C lends, how many numbers each has, and how many that makes.
+const LINES: usize = 64;
+
+const PER_LINE: usize = 6;
+
+const NUMBERS: usize = 384;
 
 fn answer_number(answer: Answer) -> u8
     ensures { λ r. ⌜ r ≡ number-of answer ⌝ }
@@ -153,6 +167,120 @@ pub extern "C" fn zankezurt_lookup(
     let look = monitor::lookup(policy, verdicts, rule, minute);
     *detail = look_detail(look);
     look_number(look)
+}
+
+fn written_number(written: Written) -> u8
+    ensures { λ r. ⌜ r ≡ written-number written ⌝ }
+{
+    match written {
+        Written::Length(_) => 0,
+        Written::Refused(r) => refusal::number(r),
+    }
+}
+
+fn written_detail(written: Written) -> usize
+    ensures { λ r. ⌜ r ≡ written-detail written ⌝ }
+{
+    match written {
+        Written::Length(n) => n,
+        Written::Refused(r) => refusal::place(r),
+    }
+}
+
+// The six numbers of line i.
+fn line_at(fields: &[u16; NUMBERS], i: usize) -> LineNumbers
+    requires { ⌜ i < 64 ⌝ }
+    ensures { λ r. ⌜ r ≡ line-at (now (fields .entry)) i ⌝ }
+{
+    let at = i * PER_LINE;
+    LineNumbers {
+        kind: fields[at],
+        first: fields[at + 1],
+        second: fields[at + 2],
+        lower: fields[at + 3],
+        upper: fields[at + 4],
+        rule: fields[at + 5] != 0,
+    }
+}
+
+// The numbers of 64 lines.
+fn lines_from(fields: &[u16; NUMBERS]) -> [LineNumbers; LINES]
+    ensures { λ r. ⌜ r ≡ lines-from (now (fields .entry)) 64 ⌝ }
+{
+    let none = LineNumbers {
+        kind: 0,
+        first: 0,
+        second: 0,
+        lower: 0,
+        upper: 0,
+        rule: false,
+    };
+    let mut lines = [none; LINES];
+    let mut i = 0;
+    while i < LINES {
+        let line = line_at(fields, i);
+        lines[i] = line;
+        i += 1;
+    }
+    lines
+}
+
+// 02, request 3: writes a policy.
+#[no_mangle]
+pub extern "C" fn zankezurt_encode_policy(
+    propositions: usize,
+    components: usize,
+    minutes: usize,
+    count: usize,
+    fields: &[u16; NUMBERS],
+    out: &mut [u8],
+    detail: &mut usize,
+) -> u8
+    ensures { λ r. ⌜ _≡_ {A = Returned-text}
+        (record { number = r; detail = now (detail .exit); out = now (out .exit) })
+        (returned-text (encode-policy (policy-numbers propositions components minutes count (now (fields .entry))) (now (out .entry)))) ⌝ }
+{
+    let lines = lines_from(fields);
+    let numbers = PolicyNumbers {
+        propositions: propositions,
+        components: components,
+        minutes: minutes,
+        count: count,
+        lines: lines,
+    };
+    let written = policy::encode(numbers, out);
+    *detail = written_detail(written);
+    written_number(written)
+}
+
+// 02, request 3: writes a message under a policy.
+#[no_mangle]
+pub extern "C" fn zankezurt_encode_message(
+    policy: &[u8],
+    component: usize,
+    alive: u8,
+    minute: usize,
+    number: usize,
+    named: u32,
+    values: u32,
+    out: &mut [u8],
+    detail: &mut usize,
+) -> u8
+    ensures { λ r. ⌜ _≡_ {A = Returned-text}
+        (record { number = r; detail = now (detail .exit); out = now (out .exit) })
+        (returned-text (encode-message (now (policy .entry)) (message-numbers component alive minute number named values) (now (out .entry)))) ⌝ }
+{
+    let numbers = MessageNumbers {
+        component: component,
+        alive: alive != 0,
+        minute: minute,
+        number: number,
+        named: named,
+        values: values,
+    };
+    let written = message::encode_numbers(policy, numbers, out);
+    *detail = written_detail(written);
+    written_number(written)
 }
 
 // The version of the library, 0.1.0: 10,000 times the major number, 100 times the minor, and the patch.
