@@ -3,6 +3,7 @@
 use crate::plain;
 use crate::timing::Take;
 use crate::workload::Workload;
+use oracle::knowledge::time_points_of_many;
 use oracle::{reading, Buffers};
 use std::hint::black_box;
 
@@ -84,6 +85,6 @@ impl Take for Contender {
 }
 
 fn conclude(policy: &oracle::Policy, buffers: &mut Buffers) -> usize {
-    buffers.verdicts = reading::verdicts(policy, buffers, &buffers.valuation);
+    buffers.verdicts = reading::verdicts(policy, &time_points_of_many(policy, buffers), &buffers.valuation);
     reading::standing(&buffers.verdicts)
 }

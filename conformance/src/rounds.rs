@@ -7,7 +7,7 @@ use std::sync::atomic::{AtomicUsize, Ordering};
 use std::{env, panic, thread};
 
 /// How often each thing was seen, by its name.
-#[derive(Default)]
+#[derive(Debug, Default)]
 pub struct Seen(BTreeMap<String, usize>);
 
 impl Seen {

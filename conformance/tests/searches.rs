@@ -1,11 +1,11 @@
-//! The library's search outwards from a minute, through the program that prints vectors of the knowledge: quiet or not,
-//! between which places, and how many were read are what the oracle says. And one search a gap is enough.
+//! The library's search outwards from a minute, through the program that prints vectors of the knowledge: quiet, busy
+//! or open, between which places, and how many were read are what the oracle says. And one search a gap is enough.
 
 use conformance::inputs::{self, Size};
 use conformance::process::{knowledge_vectors, printed_by, show};
 use conformance::rounds::{self, Seen};
 use oracle::generate::{self, Random};
-use oracle::knowledge::{known_quiet, search, sound, Search, NOT_KNOWN};
+use oracle::knowledge::{known_busy, known_quiet, search, sound, Search, NOT_KNOWN};
 use oracle::policy::MOST_MINUTES;
 use oracle::Buffers;
 use std::mem;
@@ -21,19 +21,42 @@ fn vector(run: &[u16], minute: usize) -> String {
     format!("?{}\n", digits.join(" "))
 }
 
-/// The line that it is to print: the place before is 0, and the place at or after `-`, where there is none.
-fn answer(found: Search) -> String {
-    let quiet = if found.quiet { "quiet" } else { "not quiet" };
-    let before = found.before.unwrap_or(0);
-    let after = found.after.map_or("-".to_string(), |place| place.to_string());
-    format!("{quiet} {before} {after} {}\n", found.reads)
+/// The known numbers of a run, each with its place, and the next one with its own.
+fn steps(run: &[u16]) -> Vec<[(usize, usize); 2]> {
+    let known: Vec<usize> = (0..run.len()).filter(|place| run[*place] != NOT_KNOWN).collect();
+    let number = |place: usize| (place, usize::from(run[place]));
+    known.windows(2).map(|pair| [number(pair[0]), number(pair[1])]).collect()
 }
 
-/// Vectors for the program, at most as many as it reads, and what it is to print for them.
+/// The known numbers of the run never fall: the library promises whether a minute is quiet.
+fn never_falls(run: &[u16]) -> bool {
+    steps(run).iter().all(|[(_, v), (_, w)]| v <= w)
+}
+
+/// They never rise by more than one a place: the library promises whether a minute is busy.
+fn never_jumps(run: &[u16]) -> bool {
+    steps(run).iter().all(|[(a, v), (b, w)]| *w <= v + (b - a))
+}
+
+/// The answers that the library may give: one alone, where it promises both.
+fn answers(run: &[u16], found: Search) -> Vec<&'static str> {
+    let quiet = |answer| !never_falls(run) || (answer == "quiet") == found.quiet;
+    let busy = |answer| !never_jumps(run) || (answer == "busy") == found.full;
+    ["quiet", "busy", "open"].into_iter().filter(|answer| quiet(*answer) && busy(*answer)).collect()
+}
+
+/// What it is to print after the answer: the place before is 0, and the place at or after `-`, where there is none.
+fn places(found: Search) -> String {
+    let before = found.before.unwrap_or(0);
+    let after = found.after.map_or("-".to_string(), |place| place.to_string());
+    format!("{before} {after} {}", found.reads)
+}
+
+/// Vectors for the program, at most as many as it reads, and the lines of which it is to print one for each of them.
 #[derive(Default)]
 struct Batch {
     vectors: String,
-    answers: String,
+    lines: Vec<Vec<String>>,
 }
 
 impl Batch {
@@ -44,29 +67,34 @@ impl Batch {
             self.compare();
         }
         let found = search(run, minute);
+        let answers = answers(run, found);
         self.vectors += &vector;
-        self.answers += &answer(found);
+        self.lines.push(answers.iter().map(|answer| format!("{answer} {}", places(found))).collect());
+        seen.one(&answers.join(" or "));
         tell(found, seen);
     }
 
-    /// Runs the program, which must print the oracle's lines and no others, and starts again without vectors.
+    /// Runs the program, which must print one of the oracle's lines for each vector and no others, and starts again
+    /// without vectors.
     fn compare(&mut self) {
-        let Batch { vectors, answers } = mem::take(self);
+        let Batch { vectors, lines } = mem::take(self);
         let printed = show(&printed_by(&knowledge_vectors(), vectors.as_bytes()).stdout);
-        for ((vector, printed), answer) in vectors.lines().zip(printed.lines()).zip(answers.lines()) {
-            assert!(printed == answer, "program {printed}, oracle {answer}\n{vector}");
+        let mut printed: Vec<&str> = printed.split('\n').collect();
+        assert_eq!((printed.pop(), printed.len()), (Some(""), lines.len()), "{vectors}");
+        for ((vector, printed), lines) in vectors.lines().zip(printed).zip(lines) {
+            assert!(lines.iter().any(|line| line == printed), "program {printed}, oracle {lines:?}\n{vector}");
         }
-        assert!(printed == answers, "program\n{printed}oracle\n{answers}input\n{vectors}");
     }
 }
 
 fn tell(found: Search, seen: &mut Seen) {
-    seen.one(if found.quiet { "quiet" } else { "not quiet" });
     match (found.before, found.after) {
         (None, _) => seen.one("none before"),
         (_, None) => seen.one("none after"),
         _ if found.reads == 2 => seen.one("neighbours"),
-        _ => seen.one("gap"),
+        _ if found.full => seen.one("full gap"),
+        _ if found.quiet => seen.one("level gap"),
+        _ => seen.one("other gap"),
     }
     if found.reads == MOST_MINUTES + 1 {
         seen.one("longest run read whole");
@@ -86,9 +114,12 @@ enum Kind {
     Sparse(usize),
     /// Each place but the first once in so many. The numbers may rise by more than one a minute, as in no sound record.
     Headless(usize),
+    /// Each place once in so many. The numbers may fall, as in no sound record, and do not rise by more than one a
+    /// minute.
+    Falling(usize),
 }
 
-const KINDS: [Kind; 10] = [
+const KINDS: [Kind; 13] = [
     Kind::Full,
     Kind::Empty,
     Kind::Bunched,
@@ -99,6 +130,9 @@ const KINDS: [Kind; 10] = [
     Kind::Headless(1),
     Kind::Headless(4),
     Kind::Headless(40),
+    Kind::Falling(1),
+    Kind::Falling(4),
+    Kind::Falling(40),
 ];
 
 impl Kind {
@@ -109,25 +143,38 @@ impl Kind {
             Kind::Bunched => place % 60 < 8,
             Kind::Sparse(times) => place == 0 || random.once_in(times),
             Kind::Headless(times) => place != 0 && random.once_in(times),
+            Kind::Falling(times) => random.once_in(times),
         }
     }
 
-    /// The most by which a number may rise in a minute.
-    fn steepest(self) -> usize {
+    /// The number of the first place.
+    fn first(self) -> usize {
         match self {
-            Kind::Headless(_) => 60,
-            _ => 1,
+            Kind::Falling(_) => 20 * MOST_MINUTES,
+            _ => 0,
+        }
+    }
+
+    /// A number one minute after another one, which has an observation or none.
+    fn next(self, random: &mut Random, number: usize, observed: bool) -> usize {
+        match (self, observed) {
+            (Kind::Headless(_), true) => number + random.between(1, 60),
+            (Kind::Falling(_), false) if random.once_in(3) => number - random.between(1, 20),
+            _ => number + usize::from(observed),
         }
     }
 }
 
-/// A random run of so many minutes. Its known numbers never fall: of such runs the library promises the oracle's answer.
+/// A random run of so many minutes. Of one whose known numbers neither fall nor jump the library promises the oracle's
+/// answer, and of others a part of it.
 fn run(random: &mut Random, kind: Kind, minutes: usize) -> Vec<u16> {
     let seldom = random.pick(&[1, 2, 5, 20, 2_000]);
-    let mut run = vec![0];
-    for minute in 0..minutes {
-        let rise = if random.once_in(seldom) { random.between(1, kind.steepest()) } else { 0 };
-        run.push(run[minute] + rise as u16);
+    let mut number = kind.first();
+    let mut run = vec![number as u16];
+    for _ in 0..minutes {
+        let observed = random.once_in(seldom);
+        number = kind.next(random, number, observed);
+        run.push(number as u16);
     }
     for (place, cell) in run.iter_mut().enumerate() {
         if !kind.knows(random, place) {
@@ -167,7 +214,10 @@ fn random_runs() {
         }
         batch.compare();
     });
-    for what in ["quiet", "not quiet", "none before", "none after", "neighbours", "gap"] {
+    for what in ["quiet", "busy", "open", "quiet or open", "busy or open"] {
+        seen.at_least(1_000, what);
+    }
+    for what in ["none before", "none after", "neighbours", "full gap", "level gap", "other gap"] {
         seen.at_least(1_000, what);
     }
     seen.at_least(50, "longest run read whole");
@@ -177,27 +227,30 @@ fn random_runs() {
 #[test]
 fn runs_by_hand() {
     const N: u16 = NOT_KNOWN;
-    let cases: [(&[u16], usize, &str, &str); 6] = [
-        (&[0, N, 1, N, N], 2, "?02 00 05 00 00 00 FF FF 01 00 FF FF FF FF", "not quiet 2 - 3"),
+    let cases: [(&[u16], usize, &str, &str); 9] = [
+        (&[0, N, 1, N, N], 2, "?02 00 05 00 00 00 FF FF 01 00 FF FF FF FF", "open 2 - 3"),
         (&[0, N, 1, N, 1], 2, "?02 00 05 00 00 00 FF FF 01 00 FF FF 01 00", "quiet 2 4 3"),
-        (&[0, N, 1, N, 1], 1, "?01 00 05 00 00 00 FF FF 01 00 FF FF 01 00", "not quiet 0 2 3"),
+        (&[0, N, 1, N, 1], 1, "?01 00 05 00 00 00 FF FF 01 00 FF FF 01 00", "open 0 2 3"),
+        (&[0, N, 2, 3], 1, "?01 00 04 00 00 00 FF FF 02 00 03 00", "busy 0 2 3"),
+        (&[0, 1], 0, "?00 00 02 00 00 00 01 00", "busy 0 1 2"),
         (&[0, 0], 0, "?00 00 02 00 00 00 00 00", "quiet 0 1 2"),
-        (&[0], 0, "?00 00 01 00 00 00", "not quiet 0 - 1"),
-        (&[N, N, 258], 0, "?00 00 03 00 FF FF FF FF 02 01", "not quiet 0 2 3"),
+        (&[0], 0, "?00 00 01 00 00 00", "open 0 - 1"),
+        (&[N, N, 258], 0, "?00 00 03 00 FF FF FF FF 02 01", "open 0 2 3"),
+        (&[65533, N], 0, "?00 00 02 00 FD FF FF FF", "open 0 - 2"),
     ];
     let mut batch = Batch::default();
     for (run, minute, line, printed) in cases {
         assert_eq!(vector(run, minute), format!("{line}\n"));
-        assert_eq!(answer(search(run, minute)), format!("{printed}\n"));
         batch.add(run, minute, &mut Seen::default());
+        assert_eq!(batch.lines.last(), Some(&vec![printed.to_string()]));
     }
     batch.compare();
 }
 
 const SIZES: [Size; 3] = [Size::Tiny, Size::Small, Size::Medium];
 
-/// By the oracle alone: a minute of a sound record is known quiet exactly if it is quiet by each component's search, and
-/// the minutes of a gap have one answer.
+/// By the oracle alone: a minute of a sound record is known busy exactly if it is so by some component's search, and
+/// known quiet exactly if it is so by each, and the minutes of a gap have one answer.
 #[test]
 fn one_search_a_gap_is_enough() {
     let seen = rounds::run(6_500_000, 60 * SIZES.len(), |number, random, seen| {
@@ -207,35 +260,49 @@ fn one_search_a_gap_is_enough() {
         generate::sound_knowledge(random, &policy, &trace, &mut buffers);
         assert!(sound(&policy, &buffers));
         for minute in 0..policy.minutes {
-            let quiet = |component| search(buffers.run(&policy, component), minute).quiet;
-            let by_searches = (0..policy.components).all(quiet);
-            assert_eq!(known_quiet(&policy, &buffers, minute), by_searches, "{minute} {policy:?} {buffers:?}");
-            seen.one(if by_searches { "known quiet" } else { "not known quiet" });
+            let found = |component| search(buffers.run(&policy, component), minute);
+            let busy = (0..policy.components).any(|component| found(component).full);
+            let quiet = (0..policy.components).all(|component| found(component).quiet);
+            let known = (known_busy(&policy, &buffers, minute), known_quiet(&policy, &buffers, minute));
+            assert_eq!(known, (busy, quiet), "{minute} {policy:?} {buffers:?}");
+            seen.one(match known {
+                (true, _) => "known busy",
+                (_, true) => "known quiet",
+                _ => "open",
+            });
         }
         (0..policy.components).for_each(|component| gaps(buffers.run(&policy, component), seen));
         gaps(&run(random, KINDS[number % KINDS.len()], 200), seen);
     });
-    for what in ["known quiet", "not known quiet", "quiet gap", "busy or open gap", "gap to the end"] {
+    for what in ["known busy", "known quiet", "open", "one minute", "full gap", "level gap", "other gap", "to the end"]
+    {
         seen.at_least(200, what);
     }
 }
 
-/// All minutes from a known place on to the next, or to the run's end, have the answer of the first of them; and it is
-/// quiet exactly if the two places' numbers are equal.
+/// All minutes from a known place on to the next, or to the run's end, have the answer of the first of them. Where
+/// numbers never fall it is quiet exactly if the two places' numbers are equal, and where they never jump it is busy
+/// exactly if the second is as many more as there are minutes.
 fn gaps(run: &[u16], seen: &mut Seen) {
     let known: Vec<usize> = (0..run.len()).filter(|place| run[*place] != NOT_KNOWN).collect();
     for (i, &place) in known.iter().enumerate() {
         let next = known.get(i + 1).copied();
         let found = search(run, place);
         assert_eq!((found.before, found.after), (Some(place), next), "{run:?}");
-        assert_eq!(found.quiet, next.is_some_and(|next| run[next] == run[place]), "{place} {run:?}");
+        let rise = |next: usize| usize::from(run[next]).checked_sub(usize::from(run[place]));
+        let level = next.is_some_and(|next| rise(next) == Some(0));
+        let full = next.is_some_and(|next| rise(next) == Some(next - place));
+        assert!(!never_falls(run) || found.quiet == level, "{place} {run:?}");
+        assert!(!never_jumps(run) || found.full == full, "{place} {run:?}");
         for minute in place..next.unwrap_or(run.len()) {
             assert_eq!(search(run, minute), found, "{minute} {run:?}");
         }
-        seen.one(match (next, found.quiet) {
-            (None, _) => "gap to the end",
-            (_, true) => "quiet gap",
-            (_, false) => "busy or open gap",
+        seen.one(match next {
+            None => "to the end",
+            Some(next) if next - place == 1 => "one minute",
+            _ if full => "full gap",
+            _ if level => "level gap",
+            _ => "other gap",
         });
     }
 }

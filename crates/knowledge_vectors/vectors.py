@@ -28,36 +28,55 @@ def sound(sizes, numbers, facts):
     return all(values & ~named == 0 and named >> marks == 0 for named, values in zip(facts[0::2], facts[1::2]))
 
 
+def pairs(run, t):
+    """Each known count before minute t with each at or after it, and their places. Place p is minute p - 1, so that before minute t are the
+    places 0 to t."""
+    known = [(p, v) for p, v in enumerate(run) if v != NONE]
+    return [(early, late) for early in known if early[0] <= t for late in known if t < late[0]]
+
+
+def busy(run, t):
+    """02, request 4: known counts at some a < t and b >= t that differ by exactly b - a."""
+    return any(w - v == b - a for (a, v), (b, w) in pairs(run, t))
+
+
+def quiet(run, t):
+    """01: equal known counts at some a < t and some b >= t."""
+    return any(v == w for (a, v), (b, w) in pairs(run, t))
+
+
 def row(sizes, numbers):
-    """01: known busy, known quiet, else open, for each minute: 1, 2, 0."""
+    """Known busy if some station is, known quiet if every station is, else open, for each minute: 1, 2, 0."""
     marks, stations, minutes = sizes
 
-    def quiet(run, t):
-        return any(run[a] != NONE and run[a] == run[b] for a in range(t + 1) for b in range(t + 1, minutes + 1))
-
     def code(t):
-        if any(run[t] != NONE and run[t + 1] != NONE and run[t + 1] - run[t] == 1 for run in runs(sizes, numbers)):
+        if any(busy(run, t) for run in runs(sizes, numbers)):
             return '1'
         return '2' if all(quiet(run, t) for run in runs(sizes, numbers)) else '0'
 
     return ''.join(code(t) for t in range(minutes))
 
 
+def spans(run, value):
+    """The first and the last place of known counts with the same value."""
+    span = {}
+    for p, v in enumerate(run):
+        if v != NONE:
+            span.setdefault(value(p, v), [p, p])[1] = p
+    return span.values()
+
+
 def quick_row(sizes, numbers):
-    """The same for a long run, by the first and last place of each count, since equal counts lie together in a sound run."""
+    """The same for a long run, by the first and last place of each count, and of each count less its place: counts that differ by as much as their
+    places have the same."""
     marks, stations, minutes = sizes
-    spans = []
-    for run in runs(sizes, numbers):
-        span = {}
-        for p, v in enumerate(run):
-            if v != NONE:
-                span.setdefault(v, [p, p])[1] = p
-        spans.append(span)
+    full = [spans(run, lambda p, v: v - p) for run in runs(sizes, numbers)]
+    level = [spans(run, lambda p, v: v) for run in runs(sizes, numbers)]
 
     def code(t):
-        if any(run[t] != NONE and run[t + 1] != NONE and run[t + 1] - run[t] == 1 for run in runs(sizes, numbers)):
+        if any(a <= t < b for span in full for a, b in span):
             return '1'
-        return '2' if all(any(a <= t < b for a, b in span.values()) for span in spans) else '0'
+        return '2' if all(any(a <= t < b for a, b in span) for span in level) else '0'
 
     return ''.join(code(t) for t in range(minutes))
 
@@ -117,15 +136,15 @@ def offered(sizes, numbers, facts, slip):
 
 
 def found(run, t):
-    """02: the nearest known count before minute t, the nearest at or after it, and how many places stand from the one to the other, both counted,
-    or to the run's end if there is none; by 01, whether some known counts before it and at or after it are equal. Place p is minute p - 1, so that
-    before minute t are the places 0 to t. Where none is known before, which no sound record has, the places are counted from the run's start."""
+    """02: whether the minute is quiet or busy by the run, the nearest known count before it, the nearest at or after it, and how many places stand
+    from the one to the other, both counted, or to the run's end if there is none. Where none is known before, which no sound record has, the places
+    are counted from the run's start."""
     before = [p for p in range(t + 1) if run[p] != NONE]
     after = [p for p in range(t + 1, len(run)) if run[p] != NONE]
-    quiet = any(run[a] == run[b] for a in before for b in after)
     first, last = max(before, default=0), min(after, default=len(run) - 1)
     read = [p for p in range(len(run)) if first <= p <= last]
-    return f'{"quiet" if quiet else "not quiet"} {first} {last if after else "-"} {len(read)}'
+    answer = 'quiet' if quiet(run, t) else 'busy' if busy(run, t) else 'open'
+    return f'{answer} {first} {last if after else "-"} {len(read)}'
 
 
 def about(text):
@@ -150,15 +169,18 @@ def vector(sizes, numbers, facts, slip, told=row):
     if not sound(sizes, numbers, facts):
         answer = 'corrupt'
     else:
+        assert told(sizes, numbers) == quick_row(sizes, numbers)
         answer = f'sound {told(sizes, numbers)} {offered(sizes, numbers, facts, slip)}'
     lines.append((written(data), answer))
     return answer
 
 
 def searches(run, minutes, worked=None):
-    """A search from each of the minutes; the answers worked by hand, where there are some, are what the checker says."""
-    counts = [v for v in run if v != NONE]
-    assert counts == sorted(counts) and 1 <= len(run) <= 1025 and all(0 <= t < len(run) for t in minutes)
+    """A search from each of the minutes; the answers worked by hand, where there are some, are what the checker says. Counts do not fall, nor do they
+    rise by more than one a place: of such runs the crate promises the answers."""
+    counts = [(p, v) for p, v in enumerate(run) if v != NONE]
+    assert all(0 <= w - v <= b - a for (a, v), (b, w) in zip(counts, counts[1:]))
+    assert 1 <= len(run) <= 1025 and all(0 <= t < len(run) for t in minutes)
     answers = [found(run, t) for t in minutes]
     assert worked is None or answers == worked
     for t, answer in zip(minutes, answers):
@@ -249,6 +271,27 @@ for first in [[0, 1, NONE, NONE, 1], [0, 0, 0, 0, 0], [0, NONE, NONE, NONE, NONE
     for second in [[0, 0, NONE, 0, 1], [0, 1, 1, NONE, 1]]:
         for slip in [observation(1, 1, 1), observation(0, 3, 2), alive(1, 4, 0)]:
             vector(T, first + second, [0] * 8, slip)
+about('a mixer lost two slips at minutes 0 and 1, then reported count 3 at minute 2, and what is then known; an alive slip at minute 3 instead')
+X = (1, 1, 3)
+for slip in [observation(0, 2, 3), alive(0, 3, 3)]:
+    k = known(X, *fresh(X), slip)
+    vector(X, *k, TEN)
+about('slips into a full gap: each minute of it has an observation')
+for slip in [observation(0, 1, 2), observation(0, 1, 1), alive(0, 2, 2), alive(0, 2, 1)]:
+    vector(X, [0, NONE, NONE, 3], [0] * 6, slip)
+about('full gaps: at the start of the run, within it, and at its end; and with one observation less')
+for numbers in [[0, NONE, NONE, 3, 3, NONE, NONE, NONE], [0, NONE, NONE, 2, 3, NONE, NONE, NONE], [0, 0, NONE, NONE, 3, NONE, NONE, 3],
+                [0, 0, NONE, NONE, 2, NONE, NONE, 2], [0, 0, 0, 0, NONE, NONE, NONE, 4], [0, 0, 0, 0, NONE, NONE, NONE, 3],
+                [0, NONE, NONE, NONE, NONE, NONE, NONE, 6]]:
+    vector(G, numbers, [0] * 14, TEN)
+about('full gaps: of one minute, one after another, and by turns with level and open ones')
+for numbers in [[0, 1, 1, 2, 3, 3, 3, 4], [0, 1, NONE, 3, NONE, NONE, 6, 7], [0, NONE, 2, NONE, 2, NONE, 4, 4], [0, NONE, 2, NONE, 3, NONE, 5, NONE]]:
+    vector(G, numbers, [0] * 14, TEN)
+about('two stations: a full gap of one beside a level gap, an open one and other full ones of the other')
+for second in [[0, NONE, NONE, NONE, 0], [0, NONE, NONE, NONE, NONE], [0, NONE, NONE, 2, 2], [0, 0, 0, NONE, 2], [0, 0, NONE, 2, NONE]]:
+    for numbers in [[0, NONE, 2, 2, 2] + second, second + [0, NONE, 2, NONE, 2]]:
+        vector(T, numbers, [0] * 8, TEN)
+
 about('the count 65535, and the largest that fits the place')
 for slip in [observation(0, 3, 65535), alive(0, 4, 65535), observation(0, 3, 4), observation(0, 3, 5), alive(0, 4, 4), alive(0, 4, 5)]:
     vector(K, *fresh(K), slip)
@@ -296,50 +339,66 @@ for _ in range(1024):
     run.append(n)
 run = [0] + [v if rng.random() < 0.6 else NONE for v in run[1:]]
 vector(L, run, [0] * 2048, alive(0, 1024, 1025), quick_row)
+about('1,024 minutes, all busy: the count 1024 at the end, and none known between')
+vector(L, [0] + [NONE] * 1023 + [1024], [0] * 2048, alive(0, 1024, 1025), quick_row)
 
 about('searches outwards: every minute of a run with gaps, and of one with a gap at its end')
 searches([0, 1, NONE, NONE, 1, 2, NONE, 3], range(7),
-         ['not quiet 0 1 2', 'quiet 1 4 4', 'quiet 1 4 4', 'quiet 1 4 4', 'not quiet 4 5 2', 'not quiet 5 7 3', 'not quiet 5 7 3'])
-searches([0, NONE, 1, NONE, NONE], range(4), ['not quiet 0 2 3', 'not quiet 0 2 3', 'not quiet 2 - 3', 'not quiet 2 - 3'])
+         ['busy 0 1 2', 'quiet 1 4 4', 'quiet 1 4 4', 'quiet 1 4 4', 'busy 4 5 2', 'open 5 7 3', 'open 5 7 3'])
+searches([0, NONE, 1, NONE, NONE], range(4), ['open 0 2 3', 'open 0 2 3', 'open 2 - 3', 'open 2 - 3'])
 about('the count at minute t - 1 stands at place t: the minute whose own count is known, and the next one')
-searches([0, NONE, NONE, 0, NONE, NONE, 1], [2, 3], ['quiet 0 3 4', 'not quiet 3 6 4'])
-searches([0, NONE, NONE, 2, NONE, NONE, 2], [2, 3], ['not quiet 0 3 4', 'quiet 3 6 4'])
+searches([0, NONE, NONE, 0, NONE, NONE, 1], [2, 3], ['quiet 0 3 4', 'open 3 6 4'])
+searches([0, NONE, NONE, 2, NONE, NONE, 2], [2, 3], ['open 0 3 4', 'quiet 3 6 4'])
 about('minute 0, and the last minute')
 for run in [[0, 0, NONE, NONE], [0, 1, NONE, NONE], [0, NONE, NONE, 0], [0, NONE, NONE, 3], [0, NONE, 1, 1], [0, NONE, 1, 2], [0, NONE, 1, NONE], [0, 0], [0, 1]]:
     searches(run, [0, len(run) - 2])
 about('none known at or after the minute: read to the end of the run')
-searches([0, NONE, 1, NONE, NONE, NONE, NONE], [2, 3, 5], ['not quiet 2 - 5'] * 3)
-searches([0, 1, 1, NONE], [2], ['not quiet 2 - 2'])
+searches([0, NONE, 1, NONE, NONE, NONE, NONE], [2, 3, 5], ['open 2 - 5'] * 3)
+searches([0, 1, 1, NONE], [2], ['open 2 - 2'])
 about('all counts known: two places each')
-searches([0, 0, 1, 2, 2, 3], range(5), ['quiet 0 1 2', 'not quiet 1 2 2', 'not quiet 2 3 2', 'quiet 3 4 2', 'not quiet 4 5 2'])
+searches([0, 0, 1, 2, 2, 3], range(5), ['quiet 0 1 2', 'busy 1 2 2', 'busy 2 3 2', 'quiet 3 4 2', 'busy 4 5 2'])
 about('only the first count known: the whole run')
-searches([0] + [NONE] * 6, range(6), ['not quiet 0 - 7'] * 6)
+searches([0] + [NONE] * 6, range(6), ['open 0 - 7'] * 6)
 about('equal counts on both sides, with more of them farther out')
 searches([0, 0, NONE, 0, NONE, NONE, 0, 0], range(7),
          ['quiet 0 1 2', 'quiet 1 3 3', 'quiet 1 3 3', 'quiet 3 6 4', 'quiet 3 6 4', 'quiet 3 6 4', 'quiet 6 7 2'])
 about('counts that differ, by one and by more, with equal ones on either side by themselves')
-searches([0, 0, NONE, NONE, 1, 1], [1, 2, 3], ['not quiet 1 4 4'] * 3)
-searches([0, 1, 1, NONE, NONE, NONE, 4, 4, 4], [2, 4, 5], ['not quiet 2 6 5'] * 3)
+searches([0, 0, NONE, NONE, 1, 1], [1, 2, 3], ['open 1 4 4'] * 3)
+searches([0, 1, 1, NONE, NONE, NONE, 4, 4, 4], [2, 4, 5], ['open 2 6 5'] * 3)
+about('full gaps: the mixer, at the start of the run, within it and at its end, and across known places')
+searches([0, NONE, 2, 3], range(3), ['busy 0 2 3', 'busy 0 2 3', 'busy 2 3 2'])
+searches([0, NONE, NONE, 3, 3], range(4), ['busy 0 3 4', 'busy 0 3 4', 'busy 0 3 4', 'quiet 3 4 2'])
+searches([0, 0, NONE, 2, NONE], range(4), ['quiet 0 1 2', 'busy 1 3 3', 'busy 1 3 3', 'open 3 - 2'])
+searches([0, 1, 1, NONE, NONE, 4], range(5), ['busy 0 1 2', 'quiet 1 2 2', 'busy 2 5 4', 'busy 2 5 4', 'busy 2 5 4'])
+searches([0, 1, NONE, 3, 4], range(4), ['busy 0 1 2', 'busy 1 3 3', 'busy 1 3 3', 'busy 3 4 2'])
+about('one observation less: at the start of the run, within it and at its end')
+searches([0, NONE, NONE, 2, 2], range(3), ['open 0 3 4'] * 3)
+searches([0, 1, NONE, NONE, 3, 4], [1, 2, 3], ['open 1 4 4'] * 3)
+searches([0, 1, 2, NONE, NONE, 4], [2, 3, 4], ['open 2 5 4'] * 3)
 about('counts that look like an unknown one in one byte, or nearly')
 for high in [255, 65280, 65534]:
-    searches([0, high, NONE, high], [0, 1, 2], ['not quiet 0 1 2', 'quiet 1 3 3', 'quiet 1 3 3'])
+    searches([NONE, high, NONE, high], [0, 1, 2], ['open 0 1 2', 'quiet 1 3 3', 'quiet 1 3 3'])
+searches([NONE, 65532, NONE, 65534], [0, 1, 2], ['open 0 1 2', 'busy 1 3 3', 'busy 1 3 3'])
+about('65535 is no count: none is known at or after the minute, though a full run has 65535 at the next place, at the last, or right after it')
+for high in [65534, 65533, 65532]:
+    searches([high, NONE, NONE], [0, 1], ['open 0 - 3', 'open 0 - 3'])
 about('the first count not known: read to the start of the run; and no count at all')
-searches([NONE, NONE, 0, NONE, 0, 1], range(5), ['not quiet 0 2 3', 'not quiet 0 2 3', 'quiet 2 4 3', 'quiet 2 4 3', 'not quiet 4 5 2'])
-searches([NONE] * 5, [0, 2, 3], ['not quiet 0 - 5'] * 3)
+searches([NONE, NONE, 0, NONE, 0, 1], range(5), ['open 0 2 3', 'open 0 2 3', 'quiet 2 4 3', 'quiet 2 4 3', 'busy 4 5 2'])
+searches([NONE] * 5, [0, 2, 3], ['open 0 - 5'] * 3)
 about('a run of one place, and the minute after the last')
-searches([0], [0], ['not quiet 0 - 1'])
-searches([NONE], [0], ['not quiet 0 - 1'])
-searches([0, NONE, 0, 0], [3], ['not quiet 3 - 1'])
-searches([0, NONE, 0, NONE, NONE], [4], ['not quiet 2 - 3'])
+searches([0], [0], ['open 0 - 1'])
+searches([NONE], [0], ['open 0 - 1'])
+searches([0, NONE, 0, 0], [3], ['open 3 - 1'])
+searches([0, NONE, 0, NONE, NONE], [4], ['open 2 - 3'])
 
 rng = random.Random(2)
 
 
-def rising(places, keep, busy=0.3):
+def rising(places, keep, often=0.3):
     """Counts of some shift, known at the places that `keep` answers for."""
     run = [0]
     while len(run) < places:
-        run.append(run[-1] + (rng.random() < busy))
+        run.append(run[-1] + (rng.random() < often))
     return [v if keep(p) else NONE for p, v in enumerate(run)]
 
 
@@ -355,12 +414,16 @@ for _ in range(10):
 about('runs that report in bunches, eight minutes of every 60')
 for minute in [3, 30, 63]:
     searches(rising(68, lambda p: p % 60 < 8, 0.05), [minute])
-about('1,024 minutes: all known, a gap in it, none known at first, in bunches, and only the first known')
+searches(rising(600, lambda p: p % 60 < 8, 0.01), [380])
+about('1,024 minutes: all known, a gap in it, none known at first, and only the first known')
 searches([0] * 1025, [0, 511, 1023, 1024])
 searches([0] + [NONE] * 40 + [0] * 984, [20, 40, 41])
 searches([NONE] * 30 + [0] * 995, [15])
-searches(rising(1025, lambda p: p % 60 < 8, 0.01), [620])
-searches([0] + [NONE] * 1024, [700], ['not quiet 0 - 1025'])
+searches([0] + [NONE] * 1024, [700], ['open 0 - 1025'])
+about('random runs with many observations')
+for _ in range(25):
+    places, share = rng.randint(2, 14), rng.random()
+    searches(rising(places, lambda p: rng.random() < share, 0.85), [rng.randrange(places)])
 
 folder = os.path.dirname(os.path.abspath(__file__))
 for name, column in (('stdin', 0), ('stdout', 1)):

@@ -41,6 +41,7 @@ impl Bench {
         let mut buffers = Buffers::sized(&self.policy);
         assert_eq!(open(&self.bytes, &mut buffers), Answer::Done);
         let mut left = self.all();
+        self.check(&left, &buffers);
         for offer in offers {
             let before = buffers.clone();
             left = self.step(offer, left, &mut buffers);
@@ -73,21 +74,29 @@ impl Bench {
         admitting
     }
 
-    /// In every one of these traces: each verdict shown is the two-valued one, and each minute known busy or quiet is
-    /// so.
+    /// In every one of these traces, which are those that agree with the record, each verdict shown is the two-valued
+    /// one; and what is known of each minute is what they tell.
     fn check(&self, left: &[usize], buffers: &Buffers) {
         for trace in left {
             assert!(kept_up(&buffers.verdicts, &self.verdicts[*trace]), "a verdict that is not the trace's");
         }
+        self.check_points(left, buffers);
+    }
+
+    /// Request 4 of document 02: "In a sound record a minute is then known busy exactly when it is busy in every shift
+    /// that fits the record, and known quiet exactly when it is quiet in all of them". `left` are all the traces that
+    /// agree with the record, but for those that run longer; up to M each of those is like one of these.
+    fn check_points(&self, left: &[usize], buffers: &Buffers) {
         for minute in 0..self.policy.minutes {
             let busy = |trace: &usize| self.traces[*trace].time_point(minute as i64);
-            assert!(!known_busy(&self.policy, buffers, minute) || left.iter().all(busy));
-            assert!(!known_quiet(&self.policy, buffers, minute) || !left.iter().any(busy));
+            let known = (known_busy(&self.policy, buffers, minute), known_quiet(&self.policy, buffers, minute));
+            assert_eq!(known, (left.iter().all(busy), !left.iter().any(busy)), "{minute} {:?}", buffers.numbers);
         }
     }
 
     /// Offers a message to any knowledge, sound or not. Without value bits or propositions that no fact can have, it is
-    /// sound exactly if some trace agrees with it and every first number is known.
+    /// sound exactly if some trace agrees with it and every first number is known. What sound knowledge tells of each
+    /// minute is what those traces tell.
     pub fn run_from(&self, offer: &[u8], mut buffers: Buffers) {
         let before = buffers.clone();
         let agreeing = |trace: &usize| self.traces[*trace].agrees(&self.policy, &buffers);
@@ -95,6 +104,7 @@ impl Bench {
         let expected = !left.is_empty() && first_numbers_known(&self.policy, &buffers) && tidy(&self.policy, &buffers);
         assert_eq!(sound(&self.policy, &buffers), expected);
         if expected {
+            self.check_points(&left, &buffers);
             self.step(offer, left, &mut buffers);
         } else {
             let spoiled = Answer::Refused(Refusal { number: CORRUPT_KNOWLEDGE, place: 0 });

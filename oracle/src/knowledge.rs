@@ -4,6 +4,7 @@
 use crate::message::{Fixed, Message};
 use crate::policy::Policy;
 use crate::truth::Truth;
+use std::collections::HashMap;
 
 /// The cell of a sequence number that is not known.
 pub const NOT_KNOWN: u16 = 65535;
@@ -148,13 +149,10 @@ pub fn conflict(policy: &Policy, buffers: &Buffers, message: &Message) -> bool {
     !steps_between(&together) || facts.iter().any(against)
 }
 
-/// "A minute t is known busy if some station's counts at t − 1 and t are both known and one apart."
+/// Request 4 of document 02: "From now on a minute t is known busy if some station has known counts at some a < t and
+/// b ≥ t that differ by exactly b − a."
 pub fn known_busy(policy: &Policy, buffers: &Buffers, minute: usize) -> bool {
-    (0..policy.components).any(|component| {
-        let before = buffers.number(policy, component, minute);
-        let at = buffers.number(policy, component, minute + 1);
-        matches!((before, at), (Some(before), Some(at)) if before.abs_diff(at) == 1)
-    })
+    (0..policy.components).any(|component| full_in(buffers.run(policy, component), minute))
 }
 
 /// "It is known quiet if every station has equal known counts at some a < t and some b ≥ t."
@@ -162,18 +160,29 @@ pub fn known_quiet(policy: &Policy, buffers: &Buffers, minute: usize) -> bool {
     (0..policy.components).all(|component| quiet_in(buffers.run(policy, component), minute))
 }
 
-/// What that sentence asks of one component, over its run. Minute a is place a + 1, so that a < t are the places 0 to
-/// t, and b ≥ t those from t + 1 to M; a number that is equal to a known one is known.
+/// What request 4 asks of one component, over its run. Minute a is place a + 1, so that a < t are the places 0 to t,
+/// and b ≥ t those from t + 1 to M; two places are as far apart as their minutes. The later number is to be the larger:
+/// in a sound record it is never the smaller.
+fn full_in(run: &[u16], minute: usize) -> bool {
+    let known = |place: &usize| run[*place] != NOT_KNOWN;
+    let full = |a: usize, b: usize| usize::from(run[b]) == usize::from(run[a]) + (b - a);
+    (0..=minute).filter(known).any(|a| (minute + 1..run.len()).filter(known).any(|b| full(a, b)))
+}
+
+/// What "known quiet" asks of one component, over its run, with the places as above. A number that is equal to a known
+/// one is known.
 fn quiet_in(run: &[u16], minute: usize) -> bool {
     let known = |place: &usize| run[*place] != NOT_KNOWN;
     (0..=minute).filter(known).any(|a| (minute + 1..run.len()).any(|b| run[a] == run[b]))
 }
 
 /// What request 2 of document 02 has a search answer: "whether a minute is quiet for a station", and between which
-/// places it looked.
+/// places it looked; and from request 4 on, whether the minute is busy by the station.
 #[derive(Clone, Copy, Debug, PartialEq, Eq)]
 pub struct Search {
     pub quiet: bool,
+    /// "A full run of counts means busy minutes."
+    pub full: bool,
     /// The place of "the nearest known count before the minute".
     pub before: Option<usize>,
     /// The place of "the nearest at or after it".
@@ -193,40 +202,48 @@ pub fn search(run: &[u16], minute: usize) -> Search {
     let before = (0..=minute).filter(known).max();
     let after = (minute + 1..run.len()).filter(known).min();
     let (first, last) = (before.unwrap_or(0), after.unwrap_or(run.len() - 1));
-    Search { quiet: quiet_in(run, minute), before, after, reads: (first..=last).count() }
+    let (quiet, full) = (quiet_in(run, minute), full_in(run, minute));
+    Search { quiet, full, before, after, reads: (first..=last).count() }
 }
 
 /// e of "The reading" at every minute of the policy: true, false or unknown for known busy, known quiet or open.
 pub fn time_points(policy: &Policy, buffers: &Buffers) -> Vec<Truth> {
+    let busy = |minute| known_busy(policy, buffers, minute);
     let quiet = |minute| known_quiet(policy, buffers, minute);
-    (0..policy.minutes).map(|minute| time_point(policy, buffers, minute, quiet(minute))).collect()
+    (0..policy.minutes).map(|minute| time_point(busy(minute), quiet(minute))).collect()
 }
 
-fn time_point(policy: &Policy, buffers: &Buffers, minute: usize, quiet: bool) -> Truth {
-    match (known_busy(policy, buffers, minute), quiet) {
+fn time_point(busy: bool, quiet: bool) -> Truth {
+    match (busy, quiet) {
         (true, _) => Truth::True,
         (false, true) => Truth::False,
         (false, false) => Truth::Unknown,
     }
 }
 
-/// The same as `time_points`, for large policies. That an equal number stands at some b ≥ t is that the last place with
-/// that number is one of them, and the last place is looked up only once for each a.
+/// The same as `time_points`, for large policies. Numbers at places a < b differ by exactly b − a if number less place
+/// is the same at both: full runs are told by it as level ones are by the number. M is added so that it is not below 0.
 pub fn time_points_of_many(policy: &Policy, buffers: &Buffers) -> Vec<Truth> {
-    let mut quiet = vec![true; policy.minutes];
+    let mut points = vec![(false, true); policy.minutes];
     for component in 0..policy.components {
         let known = buffers.known_numbers(policy, component);
-        let reach = last_places(&known);
-        for (minute, quiet) in quiet.iter_mut().enumerate() {
-            let spans = |((a, _), last): (&(usize, usize), &usize)| *a <= minute && minute < *last;
-            *quiet &= known.iter().zip(&reach).any(spans);
+        let full = between_equals(policy.minutes, &known, |place, number| policy.minutes + number - place);
+        let level = between_equals(policy.minutes, &known, |_, number| number);
+        for (minute, (busy, quiet)) in points.iter_mut().enumerate() {
+            *busy |= full[minute];
+            *quiet &= level[minute];
         }
     }
-    (0..policy.minutes).map(|minute| time_point(policy, buffers, minute, quiet[minute])).collect()
+    points.into_iter().map(|(busy, quiet)| time_point(busy, quiet)).collect()
 }
 
-/// For each of these (place, number) pairs, the last place with the same number.
-fn last_places(known: &[(usize, usize)]) -> Vec<usize> {
-    let last = |number: usize| known.iter().rev().find(|(_, other)| *other == number).map(|(place, _)| *place);
-    known.iter().filter_map(|(_, number)| last(*number)).collect()
+/// For each minute, whether `value` is the same at a place before it and at one at or after it, of these (place,
+/// number) pairs in their order. The last place with a value is looked up only once for each place before.
+fn between_equals(minutes: usize, known: &[(usize, usize)], value: impl Fn(usize, usize) -> usize) -> Vec<bool> {
+    let last: HashMap<usize, usize> = known.iter().map(|(place, number)| (value(*place, *number), *place)).collect();
+    let mut between = vec![false; minutes];
+    for (place, number) in known {
+        between[*place..last[&value(*place, *number)]].fill(true);
+    }
+    between
 }

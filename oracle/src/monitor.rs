@@ -1,11 +1,12 @@
 //! The calls: open (opening), receive (take), receive_packet (packet call of document 02) and lookup (look), with their
 //! checks in document 01's order. A refusal writes nothing; of a packet "it is meant of each take in the packet".
 
-use crate::knowledge::{conflict, sound, verdicts_size, Buffers};
+use crate::knowledge::{conflict, sound, time_points, time_points_of_many, verdicts_size, Buffers};
 use crate::message;
 use crate::policy::{self, Policy};
 use crate::reading::{standing, valuation, valuation_of_many, verdicts, Verdict};
 use crate::refusal::*;
+use crate::truth::Truth;
 
 /// What open and receive answer.
 #[derive(Clone, Copy, Debug, PartialEq, Eq)]
@@ -55,7 +56,7 @@ pub fn receive(policy: &[u8], message: &[u8], buffers: &mut Buffers) -> Answer {
         Ok((policy, message)) => {
             buffers.learn(&policy, &message);
             buffers.valuation = read_all(&policy, buffers);
-            buffers.verdicts = verdicts(&policy, buffers, &buffers.valuation);
+            buffers.verdicts = verdicts(&policy, &points(&policy, buffers), &buffers.valuation);
             Answer::Received(standing(&buffers.verdicts))
         }
     }
@@ -136,5 +137,13 @@ fn read_all(policy: &Policy, buffers: &Buffers) -> Vec<u8> {
         valuation(policy, buffers)
     } else {
         valuation_of_many(policy, buffers)
+    }
+}
+
+fn points(policy: &Policy, buffers: &Buffers) -> Vec<Truth> {
+    if policy.minutes <= MINUTES_BY_SUMS {
+        time_points(policy, buffers)
+    } else {
+        time_points_of_many(policy, buffers)
     }
 }

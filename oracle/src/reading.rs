@@ -1,6 +1,6 @@
 //! The reading of every subformula: three-valued over knowledge, two-valued in a trace; and the verdicts.
 
-use crate::knowledge::{known_busy, time_points, time_points_of_many, Buffers};
+use crate::knowledge::{time_points, time_points_of_many, Buffers};
 use crate::policy::{Formula, Policy, Temporal};
 use crate::trace::Trace;
 use crate::truth::{all, any, Truth};
@@ -122,15 +122,15 @@ pub fn valuation_of_many(policy: &Policy, buffers: &Buffers) -> Vec<u8> {
     codes(&rows(policy, buffers, &time_points_of_many(policy, buffers), since_walked, until_walked))
 }
 
-/// The verdict sheet over this knowledge and valuation: at a minute known busy, kept where the rule's line reads true
-/// and broken where it reads false; blank everywhere else.
-pub fn verdicts(policy: &Policy, buffers: &Buffers, valuation: &[u8]) -> Vec<u8> {
-    let busy: Vec<bool> = (0..policy.minutes).map(|minute| known_busy(policy, buffers, minute)).collect();
+/// The verdict sheet over these time points and this valuation: at a minute known busy, kept where the rule's line
+/// reads true and broken where it reads false; blank everywhere else.
+pub fn verdicts(policy: &Policy, e: &[Truth], valuation: &[u8]) -> Vec<u8> {
     let verdict = |rule: usize, minute: usize| {
+        let busy = e[minute] == Truth::True;
         let truth = valuation[rule * policy.minutes + minute];
-        if busy[minute] && truth == Truth::True.code() {
+        if busy && truth == Truth::True.code() {
             Verdict::Satisfied
-        } else if busy[minute] && truth == Truth::False.code() {
+        } else if busy && truth == Truth::False.code() {
             Verdict::Violated
         } else {
             Verdict::Unknown

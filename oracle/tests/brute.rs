@@ -2,7 +2,9 @@
 
 use oracle::brute::Bench;
 use oracle::generate::{self, Limits, Random, TINY};
-use oracle::{open, receive, Answer, Buffers};
+use oracle::knowledge::{sound, time_points};
+use oracle::truth::Truth;
+use oracle::{open, receive, Answer, Buffers, Policy};
 
 /// A bench of a random tiny policy, of at most so many bits of trace.
 fn bench(random: &mut Random, most_bits: usize) -> Bench {
@@ -26,16 +28,50 @@ fn offers(random: &mut Random, bench: &Bench, count: usize) -> Vec<Vec<u8>> {
     offers
 }
 
+/// How many gaps of more than one minute the records had, from one known place of a run to the next, and open minutes.
+#[derive(Debug, Default)]
+struct Seen {
+    full: usize,
+    level: usize,
+    between: usize,
+    open: usize,
+}
+
+impl Seen {
+    fn record(&mut self, policy: &Policy, buffers: &Buffers) {
+        for component in 0..policy.components {
+            for pair in buffers.known_numbers(policy, component).windows(2) {
+                let (minutes, rise) = (pair[1].0 - pair[0].0, pair[1].1 - pair[0].1);
+                match rise {
+                    _ if minutes == 1 => (),
+                    0 => self.level += 1,
+                    _ if rise == minutes => self.full += 1,
+                    _ => self.between += 1,
+                }
+            }
+        }
+        self.open += time_points(policy, buffers).iter().filter(|point| **point == Truth::Unknown).count();
+    }
+
+    fn all_at_least(&self, times: usize) {
+        assert!([self.full, self.level, self.between, self.open].iter().all(|seen| *seen >= times), "{self:?}");
+    }
+}
+
 #[test]
 fn accepted_exactly_when_some_trace_could_have_sent_it_and_verdicts_are_every_traces() {
     let mut random = Random::new(1);
+    let mut seen = Seen::default();
     for _ in 0..150 {
         let bench = bench(&mut random, 12);
         bench.check_textbook();
         for _ in 0..12 {
-            bench.run(&offers(&mut random, &bench, 12));
+            let offers = offers(&mut random, &bench, 12);
+            bench.run(&offers);
+            seen.record(&bench.policy, &bench.run(&offers[..random.below(5)]));
         }
     }
+    seen.all_at_least(25);
 }
 
 #[test]
@@ -68,6 +104,7 @@ fn the_largest_tiny_policies() {
 #[test]
 fn any_knowledge_is_sound_exactly_when_some_trace_agrees() {
     let mut random = Random::new(4);
+    let mut seen = Seen::default();
     for _ in 0..60 {
         let bench = bench(&mut random, 12);
         for _ in 0..30 {
@@ -77,10 +114,14 @@ fn any_knowledge_is_sound_exactly_when_some_trace_agrees() {
             if random.once_in(2) {
                 generate::damage_buffers(&mut random, &bench.policy, &mut buffers);
             }
+            if sound(&bench.policy, &buffers) {
+                seen.record(&bench.policy, &buffers);
+            }
             let offer = offers(&mut random, &bench, 1).swap_remove(0);
             bench.run_from(&offer, buffers);
         }
     }
+    seen.all_at_least(50);
 }
 
 /// All offers are one trace's, so that all are accepted, and the order and repeats do not matter.

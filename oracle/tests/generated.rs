@@ -41,12 +41,37 @@ fn the_quicker_reading_equals_the_plain_sums() {
             let mut buffers = Buffers::sized(&policy);
             generate::sound_knowledge(&mut random, &policy, &trace, &mut buffers);
             assert!(sound(&policy, &buffers));
+            assert_eq!(time_points_of_many(&policy, &buffers), time_points(&policy, &buffers));
             assert_eq!(valuation_of_many(&policy, &buffers), valuation(&policy, &buffers));
             generate::damage_buffers(&mut random, &policy, &mut buffers);
             assert_eq!(time_points_of_many(&policy, &buffers), time_points(&policy, &buffers));
             assert_eq!(valuation_of_many(&policy, &buffers), valuation(&policy, &buffers));
         }
     }
+}
+
+/// On longer runs than the plain forms read, with few and with many observations, and with full gaps among them.
+#[test]
+fn the_quicker_time_points_equal_the_plain_ones() {
+    let mut random = Random::new(19);
+    let mut seen = [0; 3];
+    let longer = Limits { minutes: 300, subformulas: 1, ..MEDIUM };
+    for round in 0..80 {
+        let policy = generate::policy(&mut random, &longer);
+        let mut trace = generate::trace(&mut random, &policy, 2);
+        // From one minute on, a component observes in each.
+        let busy = random.below(policy.minutes);
+        trace.observed[0][busy..].fill(true);
+        let mut buffers = Buffers::sized(&policy);
+        generate::sound_knowledge(&mut random, &policy, &trace, &mut buffers);
+        if round % 4 == 0 {
+            generate::damage_buffers(&mut random, &policy, &mut buffers);
+        }
+        let points = time_points(&policy, &buffers);
+        assert_eq!(time_points_of_many(&policy, &buffers), points);
+        points.iter().for_each(|point| seen[point.code() as usize] += 1);
+    }
+    assert!(seen.iter().all(|times| *times > 1_000), "{seen:?}");
 }
 
 #[test]
@@ -130,7 +155,7 @@ fn with_all_known_the_three_valued_verdicts_are_the_two_valued_ones() {
             for message in generate::every_message(&policy, &trace) {
                 buffers.learn(&policy, &message);
             }
-            let shown = verdicts(&policy, &buffers, &valuation(&policy, &buffers));
+            let shown = verdicts(&policy, &time_points(&policy, &buffers), &valuation(&policy, &buffers));
             let expected = two_valued_verdicts(&policy, &trace);
             for (rule, number) in policy.rules().into_iter().enumerate() {
                 let end = policy.minutes.saturating_sub(reach(&policy, number));

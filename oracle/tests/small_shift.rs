@@ -180,12 +180,17 @@ fn quiet_minutes_are_passed_over() {
 }
 
 #[test]
-fn known_only_from_neighbouring_numbers() {
-    // An alive at minute 2 with count 2: minutes 0 and 1 are busy in every trace, and yet open.
+fn a_full_run_of_counts_means_busy_minutes() {
     // The rule is true everywhere.
-    let policy = &[1, 1, 2, 0, 1, 0x20];
-    assert_eq!(after(policy, &[&[0x16, 2, 0, 2, 0]]).verdicts, [0, 0]);
-    assert_eq!(after(policy, &[&[0x16, 2, 0, 2, 0], &[0x04, 1, 0]]).verdicts, [1, 1]);
+    let policy = &[1, 1, 3, 0, 1, 0x20];
+    // "A mixer lost two slips at minutes 0 and 1, then reported count 3 at minute 2."
+    assert_eq!(after(policy, &[&[0x06, 2, 0, 3, 0]]).verdicts, [1, 1, 1]);
+    assert_eq!(after(policy, &[&[0x16, 3, 0, 3, 0]]).verdicts, [1, 1, 1]);
+    // An alive at minute 2 with count 2: minutes 0 and 1 are busy in every trace.
+    assert_eq!(after(policy, &[&[0x16, 2, 0, 2, 0]]).verdicts, [1, 1, 0]);
+    // With count 1 either of them may be quiet, until one is known.
+    assert_eq!(after(policy, &[&[0x16, 2, 0, 1, 0]]).verdicts, [0, 0, 0]);
+    assert_eq!(after(policy, &[&[0x16, 2, 0, 1, 0], &[0x04, 1, 0]]).verdicts, [1, 0, 0]);
 }
 
 #[test]

@@ -81,10 +81,12 @@ pub fn store(policy: &Policy, numbers: &mut [u16], facts: &mut [u32], message: &
     }
 }
 
+/// What each of the d minutes from a number to the next known one is told: quiet where none of them has an observation,
+/// busy where all have one. A single minute has one or none.
 fn gap_code(v: u16, w: u16, d: usize) -> u8 {
     if v == w {
         2
-    } else if d == 1 {
+    } else if d == 1 || (w - v) as usize == d {
         1
     } else {
         0

@@ -180,7 +180,7 @@ module _ (c : Policy) where
         let e = shown-at x Q up r t h b in
         let z = verdict-point (x .known) r t (shown c x r t) (sym e) n in
         let g = more proper x y Q R up vp f in
-        shown-at y R vp r t h b ∙ verdict-of-point (y .known) r t (point-more (c .sizes) (x .known) (y .known) g t b (z .0))
+        shown-at y R vp r t h b ∙ verdict-of-point (y .known) r t (point-more (c .sizes) (x .known) (y .known) g t (z .0))
         ∙ more-code (knows-more (world (c .sizes) (x .known)) (world (c .sizes) (y .known)) (world-more (c .sizes) (x .known) (y .known) (vp .exact .sound) g) (formula-at c) (rule-line c r) t) (λ q. n (sym (z .1) ∙ q))
         ∙ z .1
 

@@ -11,3 +11,4 @@ pub mod Packets
 pub mod Small
 pub mod Past
 pub mod Writers
+pub mod Points

@@ -185,7 +185,7 @@ module _ (s : List ℕ) (passed : policy-answer s ≡ C.Accepted) (proper : Prop
       g = agrees-law (policy-of s) (from-open cs) _ (start cs) w .1 a
 
       is : time-point (sizes-of s) w t ≡ true
-      is = point-so (sizes-of s) w (from-open cs .known) g t b (point-law (sizes-of s) (from-open cs .known) t .0 (z .0))
+      is = point-so (sizes-of s) w (from-open cs .known) g t (point-law (sizes-of s) (from-open cs .known) t .0 (z .0))
 
       plain : Plain (policy-of s) w r t (code-of (value (policy-of s) (from-open cs .known) (rule-line (policy-of s) r) t))
       plain =

@@ -11,7 +11,7 @@ use Rattle.mtl.specs.Reading.{since, until, deep, reading}
 use Rattle.policy.specs.Format.{line-length, fields-at, keeps-kind, good-line, meaning, formula-of, subformula-of, subformula-at, heading-checks, offset, line-checks, lines-checks, lines-up-to, subformulas-of, rule-lines, rules-up-to, closing-checks, policy-checks, answer-of as policy-answer, policy-of}
 use Rattle.message.specs.Format.{component-of, minute-of, number-of, named-of, packed-of, length-of, fields-of, good-alive, good-observation, all-written, good-fields, answer-of as message-answer, event-in, used-of, messages-of}
 use Rattle.message.specs.Fixes.{meaning-of}
-use Rattle.knowledge.specs.Knowledge.{follow, steady, rises, level, word-sound, words-agree, noted, valued, number, is-point, is-none, sound, fresh, stored, free, admits}
+use Rattle.knowledge.specs.Knowledge.{follow, steady, level, full, word-sound, words-agree, noted, valued, number, is-point, is-none, sound, fresh, stored, free, admits}
 use Rattle.valuation.specs.Sheets.{valuation-of, verdicts-of, standing}
 use Rattle.monitor.specs.declared.Answer.{Answer}
 use Rattle.monitor.specs.declared.Answer.the-variants.{Done, Received, Refused}
@@ -114,11 +114,41 @@ pub record Small-packets (x : State) : Type 0 where
   pub empty : frame x [] .answer ≡ ended 0 P.AtEnd
   pub empty-state : frame x [] .state ≡ after K x []
 
+-- 02, request 4: "A mixer lost two slips at minutes 0 and 1, then reported count 3 at minute 2." Under T, whose one rule is "true", the sheet shows kept at
+-- the minutes known busy, and blank elsewhere
+abbrev T : List ℕ
+T = 0x01 ∷ 0x01 ∷ 0x04 ∷ 0x00 ∷ 0x01 ∷ 0x20 ∷ []
+
+-- an observation at minute 2, of count 3 or 2, and alive at minute 3, after count 3
+abbrev mixer : List ℕ
+mixer = 0x06 ∷ 0x02 ∷ 0x00 ∷ 0x03 ∷ 0x00 ∷ []
+
+abbrev one-short : List ℕ
+one-short = 0x06 ∷ 0x02 ∷ 0x00 ∷ 0x02 ∷ 0x00 ∷ []
+
+abbrev alive-at-3 : List ℕ
+alive-at-3 = 0x16 ∷ 0x03 ∷ 0x00 ∷ 0x03 ∷ 0x00 ∷ []
+
+-- x are the buffers before the opening under T
+pub record Lost-slips (x : State) : Type 0 where
+  -- all three minutes are busy; of minute 3 nothing is known
+  pub all-three : sheet T x (mixer ∷ []) ≡ row 1 1 1 0
+  pub total : reply T x [] mixer ≡ Received 3
+  -- so they are if the mixer reports no observation, but that it is alive after three
+  pub by-alive : sheet T x (alive-at-3 ∷ []) ≡ row 1 1 1 0
+  -- with count 2 one of the minutes 0 and 1 was quiet, and which is not known; once minute 0 is known quiet, it was that one
+  pub one-open : sheet T x (one-short ∷ []) ≡ row 0 0 1 0
+  pub then-known : sheet T x (one-short ∷ (0x12 ∷ 0x01 ∷ 0x00 ∷ []) ∷ []) ≡ row 0 1 1 0
+
 -- what is assumed of x and y below is so for any buffers of the cards' sizes: both openings are done
 pub opens-sized : (n f v d : List ℕ) → length n ≡ 5 → length f ≡ 8 → length v ≡ 12 → length d ≡ 4
     → (open-state K (lent n f v d) .answer ≡ Done) × (open-state U (lent n f v d) .answer ≡ Done)
 unfolding open-state line-length fields-at keeps-kind good-line meaning formula-of subformula-of subformula-at heading-checks offset line-checks lines-checks lines-up-to subformulas-of rule-lines rules-up-to closing-checks policy-checks policy-answer policy-of sizes-fit
 opens-sized n f v d a b c e = (rw (a, b, c, e) refl, rw (a, b, c, e) refl)
+
+pub opens-lost : (n f v d : List ℕ) → length n ≡ 5 → length f ≡ 8 → length v ≡ 4 → length d ≡ 4 → open-state T (lent n f v d) .answer ≡ Done
+unfolding open-state line-length fields-at keeps-kind good-line meaning formula-of subformula-of subformula-at heading-checks offset line-checks lines-checks lines-up-to subformulas-of rule-lines rules-up-to closing-checks policy-checks policy-answer policy-of sizes-fit
+opens-lost n f v d a b c e = rw (a, b, c, e) refl
 
 -- each case, from the opened state on
 module _ (s : List ℕ) (x : State) (e : open-state s x .state ≡ opened (policy-of s)) where
@@ -132,7 +162,7 @@ module _ (s : List ℕ) (x : State) (e : open-state s x .state ≡ opened (polic
   reply-from bs b = ap (λ (y : State). receive s (run-calls s y (map Receive bs)) b .answer) e
 
 pub small-shift : (x y : State) → open-state K x .answer ≡ Done → open-state U y .answer ≡ Done → Small-shift x y
-unfolding digit below expanded bit since until deep reading line-length fields-at keeps-kind good-line meaning formula-of subformula-of subformula-at heading-checks offset line-checks lines-checks lines-up-to subformulas-of rule-lines rules-up-to closing-checks policy-checks policy-answer policy-of component-of minute-of number-of named-of packed-of length-of fields-of good-alive good-observation all-written good-fields message-answer event-in meaning-of noted valued number is-point is-none sound fresh stored free admits valuation-of verdicts-of standing sizes-fit opened receive follow steady rises level word-sound words-agree
+unfolding digit below expanded bit since until deep reading line-length fields-at keeps-kind good-line meaning formula-of subformula-of subformula-at heading-checks offset line-checks lines-checks lines-up-to subformulas-of rule-lines rules-up-to closing-checks policy-checks policy-answer policy-of component-of minute-of number-of named-of packed-of length-of fields-of good-alive good-observation all-written good-fields message-answer event-in meaning-of noted valued number is-point is-none sound fresh stored free admits valuation-of verdicts-of standing sizes-fit opened receive follow steady level full word-sound words-agree
 small-shift x y d e =
     let k : open-state K x .state ≡ opened (policy-of K) = opens K x d .state in
     let u : open-state U y .state ≡ opened (policy-of U) = opens U y e .state in
@@ -156,6 +186,18 @@ small-shift x y d e =
       until-broken = sheet-from U y u (false-at-2 ∷ alive-at-4 ∷ []);
     }
 
+pub lost-slips : (x : State) → open-state T x .answer ≡ Done → Lost-slips x
+unfolding digit below expanded bit since until deep reading line-length fields-at keeps-kind good-line meaning formula-of subformula-of subformula-at heading-checks offset line-checks lines-checks lines-up-to subformulas-of rule-lines rules-up-to closing-checks policy-checks policy-answer policy-of component-of minute-of number-of named-of packed-of length-of fields-of good-alive good-observation all-written good-fields message-answer event-in meaning-of noted valued number is-point is-none sound fresh stored free admits valuation-of verdicts-of standing sizes-fit opened receive follow steady level full word-sound words-agree
+lost-slips x d =
+    let k : open-state T x .state ≡ opened (policy-of T) = opens T x d .state in
+    record {
+      all-three = sheet-from T x k (mixer ∷ []);
+      total = reply-from T x k [] mixer;
+      by-alive = sheet-from T x k (alive-at-3 ∷ []);
+      one-open = sheet-from T x k (one-short ∷ []);
+      then-known = sheet-from T x k (one-short ∷ (0x12 ∷ 0x01 ∷ 0x00 ∷ []) ∷ []);
+    }
+
 module _ (x : State) (e : open-state K x .state ≡ opened (policy-of K)) where
   frame-from : (b : List ℕ) → frame x b ≡ receive-packet K (opened (policy-of K)) b
   frame-from b = ap (λ (y : State). receive-packet K y b) e
@@ -170,7 +212,7 @@ module _ (x : State) (e : open-state K x .state ≡ opened (policy-of K)) where
   left-from b = ap (λ (o : Packet-outcome). o .state) (frame-from b)
 
 pub small-packets : (x : State) → open-state K x .answer ≡ Done → Small-packets x
-unfolding digit below expanded bit since until deep reading line-length fields-at keeps-kind good-line meaning formula-of subformula-of subformula-at heading-checks offset line-checks lines-checks lines-up-to subformulas-of rule-lines rules-up-to closing-checks policy-checks policy-answer policy-of component-of minute-of number-of named-of packed-of length-of fields-of good-alive good-observation all-written good-fields message-answer event-in meaning-of noted valued number is-point is-none sound fresh stored free admits valuation-of verdicts-of standing sizes-fit opened receive follow steady rises level word-sound words-agree receive-packet messages-of used-of
+unfolding digit below expanded bit since until deep reading line-length fields-at keeps-kind good-line meaning formula-of subformula-of subformula-at heading-checks offset line-checks lines-checks lines-up-to subformulas-of rule-lines rules-up-to closing-checks policy-checks policy-answer policy-of component-of minute-of number-of named-of packed-of length-of fields-of good-alive good-observation all-written good-fields message-answer event-in meaning-of noted valued number is-point is-none sound fresh stored free admits valuation-of verdicts-of standing sizes-fit opened receive follow steady level full word-sound words-agree receive-packet messages-of used-of
 small-packets x d =
     let k : open-state K x .state ≡ opened (policy-of K) = opens K x d .state in
     record {

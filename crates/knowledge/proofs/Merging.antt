@@ -1,13 +1,12 @@
 -- What two codes tell of a minute together, by the tests that decide it. Assumes nothing.
 use mathlib.Core.Path.{_≡_, refl, sym, ap, ap₂, _∙_}
-use mathlib.Core.Bool.{Bool, true, false, cond, _&&_, _||_, true≢false, false≢true}
-use Prim.Native.Nat.{ℕ, zero, suc, _≤_, _<_}
+use mathlib.Core.Bool.{Bool, true, false, not, cond, _&&_, _||_, true≢false, false≢true}
+use Prim.Native.Nat.{ℕ, zero, suc, _<_}
 use native.Mathlib.Omega.{arith}
 use lib.Dec.{eqb}
-use borrow.Author.Tests.{eq-eqb, ne-eqb}
-use Rattle.kleene.specs.Truth.{unknown, true3, false3, code-of, value-of, or3}
+use borrow.Author.Tests.{ne-eqb}
+use Rattle.kleene.specs.Truth.{Truth, unknown, true3, false3, code-of, value-of, or3}
 use Rattle.knowledge.specs.Knowledge.{says}
-use Rattle.knowledge.specs.Run.{gap}
 
 value-says : (x : ℕ) → value-of x ≡ says (eqb x 1) (eqb x 2)
 value-says zero = refl
@@ -27,20 +26,6 @@ or-says false false true g = refl
 or-says false false false true = refl
 or-says false false false false = refl
 
-merge-says : (x y : ℕ) → code-of (or3 (value-of x) (value-of y)) ≡ code-of (says (eqb x 1 || eqb y 1) (eqb x 2 && eqb y 2))
-merge-says x y = ap code-of (ap₂ or3 (value-says x) (value-says y) ∙ or-says (eqb x 1) (eqb x 2) (eqb y 1) (eqb y 2))
-
--- what each way through the two tests answers
-module _ (x y : ℕ) where
-  pub merge-true : (eqb x 1 || eqb y 1) ≡ true → 1 ≡ code-of (or3 (value-of x) (value-of y))
-  merge-true p = sym (merge-says x y ∙ ap (λ (b : Bool). code-of (says b (eqb x 2 && eqb y 2))) p)
-
-  pub merge-false : (eqb x 1 || eqb y 1) ≡ false → (eqb x 2 && eqb y 2) ≡ true → 2 ≡ code-of (or3 (value-of x) (value-of y))
-  merge-false p q = sym (merge-says x y ∙ ap₂ (λ (a b : Bool). code-of (says a b)) p q)
-
-  pub merge-neither : (eqb x 1 || eqb y 1) ≡ false → (eqb x 2 && eqb y 2) ≡ false → 0 ≡ code-of (or3 (value-of x) (value-of y))
-  merge-neither p q = sym (merge-says x y ∙ ap₂ (λ (a b : Bool). code-of (says a b)) p q)
-
 -- the one minute between two neighbouring known places: busy whatever was told, and else what was told stays
 abbrev step : ℕ → Bool → ℕ
 step x l = code-of (or3 (value-of x) (cond l false3 true3))
@@ -59,18 +44,42 @@ step-kept (suc zero) true e h = refl
 step-kept (suc (suc zero)) true e h = refl
 step-kept (suc (suc (suc n))) true e h = absurd (let z : ⊥ = omega arith in z)
 
-pub step-open : (x : ℕ) (l : Bool) → l ≡ true → 3 ≤ x → 0 ≡ step x l
-step-open x false e h = absurd (false≢true e)
-step-open zero true e h = absurd (let z : ⊥ = omega arith in z)
-step-open (suc zero) true e h = absurd (let z : ⊥ = omega arith in z)
-step-open (suc (suc zero)) true e h = absurd (let z : ⊥ = omega arith in z)
-step-open (suc (suc (suc n))) true e h = refl
+-- such a minute is busy if it is not quiet
+pub one-minute : (f l : Bool) → f ≡ not l → cond l false3 true3 ≡ says f l
+one-minute f true e = rw e refl
+one-minute f false e = rw e refl
 
--- what a gap's minutes are told, by its length
-pub gap-one : (l : Bool) (d : ℕ) → d ≡ 1 → cond l false3 true3 ≡ gap l d
-unfolding gap
-gap-one l d e = rw (eq-eqb d 1 e)
+-- a longer gap that is quiet leaves each code as it is
+pub quiet-kept : (x : ℕ) (f l : Bool) → f ≡ false → l ≡ true → x < 3 → x ≡ code-of (or3 (value-of x) (says f l))
+quiet-kept x f l e g h = step-kept x true refl h ∙ sym (ap₂ (λ (a b : Bool). code-of (or3 (value-of x) (says a b))) e g)
 
-pub gap-wide : (l : Bool) (d : ℕ) → (d ≡ 1 → ⊥) → cond l false3 unknown ≡ gap l d
-unfolding gap
-gap-wide l d e = rw (ne-eqb d 1 e)
+-- and of any other it matters whether it is full
+pub wide-gap : (f l : Bool) → l ≡ false → cond f true3 unknown ≡ says f l
+wide-gap f l e = sym (ap (says f) e)
+
+-- what each way through the test of such a gap answers
+wide-says : (x : ℕ) (f : Bool) → code-of (says (eqb x 1 || f) (eqb x 2 && false)) ≡ code-of (or3 (value-of x) (cond f true3 unknown))
+wide-says x f = ap code-of (sym (or-says (eqb x 1) (eqb x 2) f false) ∙ ap (λ (y : Truth). or3 y (cond f true3 unknown)) (sym (value-says x)))
+
+neither : (a b f : Bool) → (not a && not f) ≡ true → 0 ≡ code-of (says (a || f) (b && false))
+neither true b f e = absurd (false≢true e)
+neither false b true e = absurd (false≢true e)
+neither false true false e = refl
+neither false false false e = refl
+
+either : (a b f : Bool) → (not a && not f) ≡ false → 1 ≡ code-of (says (a || f) (b && false))
+either true b f e = refl
+either false b true e = refl
+either false b false e = absurd (true≢false e)
+
+pub wide-open : (x : ℕ) (f : Bool) → (not (eqb x 1) && not f) ≡ true → 0 ≡ code-of (or3 (value-of x) (cond f true3 unknown))
+wide-open x f e = neither (eqb x 1) (eqb x 2) f e ∙ wide-says x f
+
+pub wide-busy : (x : ℕ) (f : Bool) → (not (eqb x 1) && not f) ≡ false → 1 ≡ code-of (or3 (value-of x) (cond f true3 unknown))
+wide-busy x f e = either (eqb x 1) (eqb x 2) f e ∙ wide-says x f
+
+-- codes are below 3
+pub code-below : (x : Truth) → code-of x < 3
+code-below unknown = omega arith
+code-below true3 = omega arith
+code-below false3 = omega arith

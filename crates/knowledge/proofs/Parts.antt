@@ -13,9 +13,9 @@ use lib.Seq.{getD-take, getD-drop}
 use Rattle.mtl.specs.Algebra.{two, all}
 use Rattle.decide.specs.Laws.{agree, same}
 use Rattle.policy.specs.declared.Sizes.{Sizes}
-use Rattle.knowledge.specs.Knowledge.{none, run-of, Steady, steady, free-place, word-sound, number, sound}
+use Rattle.knowledge.specs.Knowledge.{none, run-of, Equal, Apart, Steady, steady, free-place, word-sound, number, sound}
 use Rattle.knowledge.specs.Run.{cell, held, told, put, may}
-use Rattle.knowledge.specs.Runs.{steady-decides, rises-decides, level-decides, Within, steady-less, rises-more, level-more}
+use Rattle.knowledge.specs.Runs.{steady-decides, level-decides, full-decides, Within, steady-less, across-more}
 
 pub one-run : (c k : ℕ) → (c + 1) * k ≡ c * k + k
 one-run c k = rw add-one (suc-mul c k)
@@ -46,14 +46,14 @@ may-same f g n p v l e =
     alike : (i : ℕ) → i < n → put f p v i ≡ put g p v i
     alike i h = ap (cond (eqb i p) v) (e i h)
 
-told-same : (f g : ℕ → ℕ) (m t : ℕ) → t < m → ((i : ℕ) → i < suc m → f i ≡ g i) → told f m t ≡ told g m t
+told-same : (f g : ℕ → ℕ) (m t : ℕ) → ((i : ℕ) → i < suc m → f i ≡ g i) → told f m t ≡ told g m t
 unfolding told
-told-same f g m t l e =
+told-same f g m t e =
     let there : Within f g (suc m) = λ i h k. e i h in
     let back : Within g f (suc m) = λ i h k. sym (e i h) in
     rw (
-      agree (same (rises-more f g m t l there) (rises-more g f m t l back) (rises-decides f t)) (rises-decides g t),
-      agree (same (level-more f g m t there) (level-more g f m t back) (level-decides f m t)) (level-decides g m t),
+      agree (same (across-more Apart f g m t there) (across-more Apart g f m t back) (full-decides f m t)) (full-decides g m t),
+      agree (same (across-more Equal f g m t there) (across-more Equal g f m t back) (level-decides f m t)) (level-decides g m t),
     )
     refl
 
@@ -84,8 +84,8 @@ module _ (l : List ℕ) (m n c at : ℕ) (long : length l ≡ n * suc m) (in-lis
   pub part-may : (p v : ℕ) → p < suc m → may (cell part) (length part) p v ≡ may (run-of l m c) (suc m) p v
   part-may p v h = rw part-long (may-same (cell part) (run-of l m c) (suc m) p v h part-at)
 
-  pub part-told : (t : ℕ) → t < m → told (cell part) m t ≡ told (run-of l m c) m t
-  part-told t h = told-same (cell part) (run-of l m c) m t h part-at
+  pub part-told : (t : ℕ) → told (cell part) m t ≡ told (run-of l m c) m t
+  part-told t = told-same (cell part) (run-of l m c) m t part-at
 
 -- soundness in its two parts
 module _ (z : Sizes) (numbers facts : List ℕ) where

@@ -1,7 +1,7 @@
 -- What reading back and reading forth from a minute find, taken together, is what the search outwards from it gives.
 -- Assumes nothing.
-use mathlib.Core.Path.{_≡_, refl, sym, subst, _∙_}
-use mathlib.Core.Logic.{_⊎_, inl, inr, ⊎-elim}
+use mathlib.Core.Path.{_≡_, refl, sym, subst}
+use mathlib.Core.Logic.{_⊎_, inl, inr, ⊎-elim, _↔_}
 use mathlib.Core.Bool.{_&&_}
 use Prim.Native.Nat.{ℕ, suc, _+_, _-_, _≤_, _<_}
 use native.Mathlib.Nat.{eq-or-lt-of-le}
@@ -10,11 +10,11 @@ use native.Mathlib.Omega.{arith}
 use lib.Dec.{ltb, eqb}
 use Rattle.decide.specs.Laws.{agree, same, less, equal, both}
 use Rattle.knowledge.specs.declared.Found.{Found}
-use Rattle.knowledge.specs.Knowledge.{none, Level, level}
+use Rattle.knowledge.specs.Knowledge.{none, Across, Equal, Apart, level, full}
 use Rattle.knowledge.specs.Run.{Back, Forth, Previous}
-use Rattle.knowledge.specs.Runs.{level-decides}
-use Rattle.knowledge.specs.Outwards.{Nearest-before, Nearest-after, None-before, None-after, places-read, Never-falls, Outwards}
-use Rattle.knowledge.specs.Nearest.{read-from-to, level-before, level-after, level-nearest}
+use Rattle.knowledge.specs.Runs.{level-decides, full-decides}
+use Rattle.knowledge.specs.Outwards.{Nearest-before, Nearest-after, None-before, None-after, places-read, Never-falls, Never-jumps, Outwards}
+use Rattle.knowledge.specs.Nearest.{read-from-to, Narrows, level-narrows, full-narrows, none-before, none-after, by-nearest}
 
 -- none of the places from `from` to before i is known
 abbrev pub Unknown : (ℕ → ℕ) → ℕ → ℕ → Type 0
@@ -111,24 +111,41 @@ module _ (f : ℕ → ℕ) (m t : ℕ) (back forth : Found) (inside : t ≤ m) (
   abbrev y : ℕ
   y = forth .number
 
-  answer : Before → After → Never-falls f m → (eqb x y && ltb x none) ≡ level f m t
-  answer before after S = agree (same (there before after) (here before after) (both (equal x y) (less x none))) (level-decides f m t)
+  -- where R narrows, it relates some two numbers across the minute exactly if both that were found are known and it relates them
+  narrowed : (R : ℕ → ℕ → ℕ → Type 0) → Narrows R f m → Before → After → Across R f m t ↔ (R x y (b - a) × (x < none) × (y < none))
+  narrowed R S before after = (here before after, there before after)
     where
       y-there : Nearest-after f m t b → y ≡ f b
       y-there A = F .number (omega (arith, A .within))
 
-      there : Before → After → (x ≡ y) × (x < none) → Level f m t
-      there (inl N) (inl A) h = level-nearest f m t S a b N A .1 (sym (B .number (N .known)) ∙ h .0 ∙ y-there A)
-      there (inl N) (inr A) h = absurd (let s = F .nothing (omega (arith, A .1)) in let z : ⊥ = omega (arith, h) in z)
-      there (inr N) A h = absurd (let s = B .nothing (N .0 a (omega (arith, N .1))) in let z : ⊥ = omega (arith, h) in z)
+      there : Before → After → R x y (b - a) × (x < none) × (y < none) → Across R f m t
+      there (inl N) (inl A) h = by-nearest f m t R S a b N A .1 (rw (B .number (N .known), y-there A) at (h .0))
+      there (inl N) (inr A) h = absurd (let s = F .nothing (omega (arith, A .1)) in let z : ⊥ = omega (arith, h .2) in z)
+      there (inr N) A h = absurd (let s = B .nothing (N .0 a (omega (arith, N .1))) in let z : ⊥ = omega (arith, h .1) in z)
 
-      here : Before → After → Level f m t → (x ≡ y) × (x < none)
+      here : Before → After → Across R f m t → R x y (b - a) × (x < none) × (y < none)
       here (inl N) (inl A) Q =
           let s = B .number (N .known) in
           let k = N .known in
-          (s ∙ level-nearest f m t S a b N A .0 Q ∙ sym (y-there A), omega arith)
-      here (inl N) (inr A) Q = absurd (level-after f m t (A .0) Q)
-      here (inr N) A Q = absurd (level-before f m t (N .0) Q)
+          let u = y-there A in
+          let l = A .known in
+          (rw (s, u) (by-nearest f m t R S a b N A .0 Q), omega arith, omega arith)
+      here (inl N) (inr A) Q = absurd (none-after f m t R (A .0) Q)
+      here (inr N) A Q = absurd (none-before f m t R (N .0) Q)
+
+  answer : Before → After → Never-falls f m → (eqb x y && ltb x none) ≡ level f m t
+  answer before after S =
+      let N = narrowed Equal (level-narrows f m S) before after in
+      agree
+      (same (λ h. N .1 (h .0, h .1, omega (arith, h))) (λ Q. let r = N .0 Q in (r .0, r .1)) (both (equal x y) (less x none)))
+      (level-decides f m t)
+
+  full-answer : Before → After → Never-jumps f m → (eqb y (x + (b - a)) && ltb y none) ≡ full f m t
+  full-answer before after S =
+      let N = narrowed Apart (full-narrows f m S) before after in
+      agree
+      (same (λ h. N .1 (h .0, omega (arith, h), h .1)) (λ Q. let r = N .0 Q in (r .0, r .2)) (both (equal y (x + (b - a))) (less y none)))
+      (full-decides f m t)
 
   reads : After → back .reads + forth .reads ≡ places-read f m t
   reads (inl A) =
@@ -150,5 +167,24 @@ module _ (f : ℕ → ℕ) (m t : ℕ) (back forth : Found) (inside : t ≤ m) (
       (λ l. absurd (let z : ⊥ = omega arith in z)) in
       omega arith
 
-  pub outwards : Outwards f m t (record { level = eqb x y && ltb x none; before = a; after = b; reads = back .reads + forth .reads })
-  outwards = record { answer = answer before after; before = before; after = after; reads = reads after }
+  pub outwards : Outwards f m t (record {
+    level = eqb x y && ltb x none;
+    before = a;
+    after = b;
+    earlier = x;
+    later = y;
+    reads = back .reads + forth .reads;
+  })
+  outwards = record {
+    answer = answer before after;
+    full-answer = full-answer before after;
+    before = before;
+    after = after;
+    earlier = (λ N. B .number (N .known), λ N. B .nothing (N a (omega (arith, B .before))));
+    later = (λ A. F .number (omega (arith, A .within)), λ N. F .nothing (past N (decLt b (suc m))));
+    reads = reads after;
+  }
+    where
+      past : None-after f m t → Dec (b < suc m) → suc m ≤ b
+      past N (no l) = omega arith
+      past N (yes l) = absurd (let k = F .place .there l in let h = N b (omega (arith, F .place .past)) (omega arith) in let z : ⊥ = omega arith in z)

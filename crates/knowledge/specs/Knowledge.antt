@@ -47,14 +47,9 @@ pub record Steady (f : ℕ → ℕ) (n : ℕ) : Type 0 where
   pub first : f 0 ≡ 0
   pub pairs : (b : ℕ) → b < n → (a : ℕ) → a < b → f a < none → f b < none → Follow (f a) (f b) (b - a)
 
--- "Counts at t − 1 and t are both known and one apart"
-pub record Rises (f : ℕ → ℕ) (t : ℕ) : Type 0 where
-  pub before : f t < none
-  pub after : f (suc t) < none
-  pub apart : f (suc t) ≡ suc (f t)
-
--- "Equal known counts at some a < t and some b ≥ t", of m minutes; the place before minute 0 is one of the first
-pub record Level (f : ℕ → ℕ) (m t : ℕ) : Type 0 where
+-- Known counts "at some a < t and some b ≥ t", of m minutes, that R relates: the earlier, the later, and how many places they are apart. The place before
+-- minute 0 is one of the first
+pub record Across (R : ℕ → ℕ → ℕ → Type 0) (f : ℕ → ℕ) (m t : ℕ) : Type 0 where
   pub early : ℕ
   pub late : ℕ
   pub early-before : early ≤ t
@@ -62,7 +57,22 @@ pub record Level (f : ℕ → ℕ) (m t : ℕ) : Type 0 where
   pub late-in : late ≤ m
   pub early-known : f early < none
   pub late-known : f late < none
-  pub equal : f early ≡ f late
+  pub related : R (f early) (f late) (late - early)
+
+-- two counts v and w, d places apart: "equal", and "that differ by exactly b − a"
+abbrev pub Equal : ℕ → ℕ → ℕ → Type 0
+Equal v w d = v ≡ w
+
+abbrev pub Apart : ℕ → ℕ → ℕ → Type 0
+Apart v w d = w ≡ v + d
+
+-- "Equal known counts at some a < t and some b ≥ t"
+abbrev pub Level : (ℕ → ℕ) → ℕ → ℕ → Type 0
+Level = Across Equal
+
+-- 02, request 4: "known counts at some a < t and b ≥ t that differ by exactly b − a"
+abbrev pub Full : (ℕ → ℕ) → ℕ → ℕ → Type 0
+Full = Across Apart
 
 -- ---- the same as tests, which compute
 
@@ -74,11 +84,14 @@ steady f n =
     eqb (f 0) 0
     && all two 0 n (λ b. all two 0 b (λ a. not (ltb (f a) none) || (not (ltb (f b) none) || follow (f a) (f b) (b - a))))
 
-unfoldable pub rises : (ℕ → ℕ) → ℕ → Bool
-rises f t = ltb (f t) none && (ltb (f (suc t)) none && eqb (f (suc t)) (suc (f t)))
+abbrev pub across : (ℕ → ℕ → ℕ → Bool) → (ℕ → ℕ) → ℕ → ℕ → Bool
+across r f m t = any two 0 (suc t) (λ a. any two (suc t) (m - t) (λ b. ltb (f a) none && (ltb (f b) none && r (f a) (f b) (b - a))))
 
 unfoldable pub level : (ℕ → ℕ) → ℕ → ℕ → Bool
-level f m t = any two 0 (suc t) (λ a. any two (suc t) (m - t) (λ b. ltb (f a) none && (ltb (f b) none && eqb (f a) (f b))))
+level f m t = across (λ v w d. eqb v w) f m t
+
+unfoldable pub full : (ℕ → ℕ) → ℕ → ℕ → Bool
+full f m t = across (λ v w d. eqb w (v + d)) f m t
 
 -- "true, false or unknown for busy, quiet or open": p says busy, and q quiet
 abbrev pub says : Bool → Bool → Truth
@@ -134,11 +147,11 @@ module _ (z : Sizes) where
     pub numbers : (c p : ℕ) → c < z .components → p ≤ z .minutes → number k c p < none → made z w c p ≡ number k c p
     pub facts : (i t : ℕ) → i < z .propositions → t < z .minutes → noted k i t ≡ true → w .value i t ≡ valued k i t
 
-  -- "A minute t is known busy if some station's counts at t − 1 and t are both known and one apart"
+  -- 02, request 4: "From now on a minute t is known busy if some station has known counts at some a < t and b ≥ t that differ by exactly b − a"
   pub record Known-point (k : Knowledge) (t : ℕ) : Type 0 where
     pub component : ℕ
     pub is-component : component < z .components
-    pub rise : Rises (number k component) t
+    pub full-run : Full (number k component) (z .minutes) t
 
   -- "It is known quiet if every station has equal known counts at some a < t and some b ≥ t"
   abbrev pub Known-none : Knowledge → ℕ → Type 0
@@ -152,7 +165,7 @@ module _ (z : Sizes) where
       && all two 0 (z .minutes) (λ t. word-sound (z .propositions) (known-word k t) (value-word k t))
 
   unfoldable pub is-point : Knowledge → ℕ → Bool
-  is-point k t = any two 0 (z .components) (λ c. rises (number k c) t)
+  is-point k t = any two 0 (z .components) (λ c. full (number k c) (z .minutes) t)
 
   unfoldable pub is-none : Knowledge → ℕ → Bool
   is-none k t = all two 0 (z .components) (λ c. level (number k c) (z .minutes) t)

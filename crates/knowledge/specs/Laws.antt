@@ -12,7 +12,7 @@ use Rattle.message.specs.declared.Event.{Event}
 use Rattle.message.specs.declared.Event.the-variants.{Observation, Alive}
 use Rattle.message.specs.Fixes.{Message, Fixes-number, Fixes-fact}
 use Rattle.knowledge.specs.Knowledge.{most-minutes, none, word-sound, words-agree, Knowledge, noted, valued, number, Sound, Known-point, Known-none, is-point, is-none, sound, free-event, free}
-use Rattle.knowledge.specs.Runs.{steady-decides, rises-decides, level-decides, free-place-decides}
+use Rattle.knowledge.specs.Runs.{steady-decides, level-decides, full-decides, free-place-decides}
 
 iff : {b : Bool} {P : Type 0} → Decides b P → (b ≡ true) ↔ P
 iff d = (d .sound, d .whole)
@@ -41,9 +41,9 @@ module _ (z : Sizes) where
   point-law k t =
       iff
       (same
-      (λ h. let u = h .under in record { component = h .at; is-component = omega arith; rise = h .there })
-      (λ h. let l = h .is-component in record { at = h .component; from = omega arith; under = omega arith; there = h .rise })
-      (some 0 (z .components) _ _ (λ c. rises-decides (number z k c) t)))
+      (λ h. let u = h .under in record { component = h .at; is-component = omega arith; full-run = h .there })
+      (λ h. let l = h .is-component in record { at = h .component; from = omega arith; under = omega arith; there = h .full-run })
+      (some 0 (z .components) _ _ (λ c. full-decides (number z k c) (z .minutes) t)))
 
   pub none-law : (k : Knowledge) (t : ℕ) → (is-none z k t ≡ true) ↔ Known-none z k t
   unfolding is-none

@@ -3,19 +3,36 @@ use Prim.Native.Nat.{ℕ, zero, suc, _+_, _-_, _≤_, _<_, min}
 use native.Mathlib.Omega.{arith}
 use native.Mathlib.Decide.{decLe}
 use mathlib.Core.Path.{_≡_}
-use mathlib.Core.Logic.{⊎-elim, _↔_}
+use mathlib.Core.Logic.{_⊎_, inl, inr, ⊎-elim, _↔_}
 use mathlib.Core.Bool.{Bool, true, false, cond}
 use Rattle.rows.specs.Laws.{lt-or-le}
 use Rattle.decide.specs.Decide.{Decides}
 use Rattle.decide.specs.Laws.{is-false, less, most, both, implies, each}
+use Rattle.knowledge.specs.declared.Search.{Search}
 use Rattle.knowledge.specs.Trace.{tally}
-use Rattle.knowledge.specs.Knowledge.{none, Steady, Level}
+use Rattle.knowledge.specs.Knowledge.{none, Steady, Across, Equal, Apart}
 use Rattle.knowledge.specs.Runs.{follow-up}
-use Rattle.knowledge.specs.Outwards.{Nearest-before, Nearest-after, None-before, None-after, in-reach, places-read, Counted, Never-falls}
+use Rattle.knowledge.specs.Outwards.{Nearest-before, Nearest-after, None-before, None-after, in-reach, places-read, Counted, Never-falls, Never-jumps, Outwards}
 
--- those of a steady run never do
+-- those of a steady run neither fall nor jump
 pub steady-never-falls : (f : ℕ → ℕ) (m : ℕ) → Steady f (suc m) → Never-falls f m
 steady-never-falls f m S a b l w k h = follow-up f (suc m) S a b k h l (omega arith) .up
+
+pub steady-never-jumps : (f : ℕ → ℕ) (m : ℕ) → Steady f (suc m) → Never-jumps f m
+steady-never-jumps f m S a b l w k h = follow-up f (suc m) S a b k h l (omega arith) .slow
+
+-- what R says of two known numbers it says of any two between them
+abbrev pub Narrows : (ℕ → ℕ → ℕ → Type 0) → (ℕ → ℕ) → ℕ → Type 0
+Narrows R f m = (i a b j : ℕ) → i ≤ a → a < b → b ≤ j → j ≤ m → f i < none → f a < none → f b < none → f j < none
+    → R (f i) (f j) (j - i) → R (f a) (f b) (b - a)
+
+pub level-narrows : (f : ℕ → ℕ) (m : ℕ) → Never-falls f m → Narrows Equal f m
+level-narrows f m S i a b j l u w h ki ka kb kj e =
+    omega (arith, S i a l (omega arith) ki ka, S a b (omega arith) (omega arith) ka kb, S b j w h kb kj)
+
+pub full-narrows : (f : ℕ → ℕ) (m : ℕ) → Never-jumps f m → Narrows Apart f m
+full-narrows f m S i a b j l u w h ki ka kb kj e =
+    omega (arith, S i a l (omega arith) ki ka, S a b (omega arith) (omega arith) ka kb, S b j w h kb kj)
 
 -- what the test of a place decides
 abbrev In-reach : (ℕ → ℕ) → ℕ → ℕ → Type 0
@@ -72,43 +89,47 @@ module _ (f : ℕ → ℕ) (m t : ℕ) where
       end : m < m → (t < m) × (f m < none)
       end l = absurd (let z : ⊥ = omega arith in z)
 
-  -- with none on one side no two numbers can be equal
-  pub level-before : None-before f t → Level f m t → ⊥
-  level-before N Q = let x = N (Q .early) (Q .early-before) in let y = Q .early-known in omega arith
+  module _ (R : ℕ → ℕ → ℕ → Type 0) where
+    -- with none on one side there are no two numbers
+    pub none-before : None-before f t → Across R f m t → ⊥
+    none-before N Q = let x = N (Q .early) (Q .early-before) in let y = Q .early-known in omega arith
 
-  pub level-after : None-after f m t → Level f m t → ⊥
-  level-after N Q = let x = N (Q .late) (Q .late-after) (Q .late-in) in let y = Q .late-known in omega arith
+    pub none-after : None-after f m t → Across R f m t → ⊥
+    none-after N Q = let x = N (Q .late) (Q .late-after) (Q .late-in) in let y = Q .late-known in omega arith
 
-  -- where numbers never fall, the two nearest decide
-  pub level-nearest : Never-falls f m → (a b : ℕ) → Nearest-before f t a → Nearest-after f m t b → Level f m t ↔ (f a ≡ f b)
-  level-nearest S a b A B = (there, back)
-    where
-      there : Level f m t → f a ≡ f b
-      there Q =
-          let l = Q .late-in in
-          let x : Q .early ≤ a =
-          ⊎-elim (λ (w : a < Q .early). absurd (let y = A .nearest (Q .early) w (Q .early-before) in let k = Q .early-known in let z : ⊥ = omega arith in z))
-          (λ (w : Q .early ≤ a). w) (lt-or-le a (Q .early)) in
-          let y : b ≤ Q .late =
-          ⊎-elim (λ (w : Q .late < b). absurd (let y = B .nearest (Q .late) (Q .late-after) w in let k = Q .late-known in let z : ⊥ = omega arith in z))
-          (λ (w : b ≤ Q .late). w) (lt-or-le (Q .late) b) in
-          let u = A .before in
-          let v = B .after in
-          let w = B .within in
-          let early = S (Q .early) a x (omega arith) (Q .early-known) (A .known) in
-          let late = S b (Q .late) y (omega arith) (B .known) (Q .late-known) in
-          let between = S a b (omega arith) (omega arith) (A .known) (B .known) in
-          let same = Q .equal in
-          omega arith
+    -- the two nearest decide
+    pub by-nearest : Narrows R f m → (a b : ℕ) → Nearest-before f t a → Nearest-after f m t b → Across R f m t ↔ R (f a) (f b) (b - a)
+    by-nearest S a b A B = (there, back)
+      where
+        there : Across R f m t → R (f a) (f b) (b - a)
+        there Q =
+            let x : Q .early ≤ a =
+            ⊎-elim (λ (w : a < Q .early). absurd (let y = A .nearest (Q .early) w (Q .early-before) in let k = Q .early-known in let z : ⊥ = omega arith in z))
+            (λ (w : Q .early ≤ a). w) (lt-or-le a (Q .early)) in
+            let y : b ≤ Q .late =
+            ⊎-elim (λ (w : Q .late < b). absurd (let y = B .nearest (Q .late) (Q .late-after) w in let k = Q .late-known in let z : ⊥ = omega arith in z))
+            (λ (w : b ≤ Q .late). w) (lt-or-le (Q .late) b) in
+            S (Q .early) a b (Q .late) x (omega (arith, A .before, B .after)) y (Q .late-in) (Q .early-known) (A .known) (B .known) (Q .late-known) (Q .related)
 
-      back : f a ≡ f b → Level f m t
-      back e = record {
-        early = a;
-        late = b;
-        early-before = omega (arith, A .before);
-        late-after = B .after;
-        late-in = B .within;
-        early-known = A .known;
-        late-known = B .known;
-        equal = e;
-      }
+        back : R (f a) (f b) (b - a) → Across R f m t
+        back e = record {
+          early = a;
+          late = b;
+          early-before = A .before;
+          late-after = B .after;
+          late-in = B .within;
+          early-known = A .known;
+          late-known = B .known;
+          related = e;
+        }
+
+-- the two places that a search gives
+pub in-order : (f : ℕ → ℕ) (m t : ℕ) (r : Search) → t ≤ m → Outwards f m t r → (r .before < r .after) × (r .after ≤ suc m)
+in-order f m t r l O = go (O .before) (O .after)
+  where
+    go : Nearest-before f t (r .before) ⊎ (None-before f t × (r .before ≡ 0)) → Nearest-after f m t (r .after) ⊎ (None-after f m t × (r .after ≡ suc m))
+        → (r .before < r .after) × (r .after ≤ suc m)
+    go (inl A) (inl B) = omega (arith, A .before, B .after, B .within)
+    go (inl A) (inr B) = omega (arith, A .before, B .1)
+    go (inr A) (inl B) = omega (arith, A .1, B .after, B .within)
+    go (inr A) (inr B) = omega (arith, A .1, B .1)

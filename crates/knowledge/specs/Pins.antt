@@ -10,7 +10,7 @@ use Rattle.bits.specs.Bits.{bit}
 use Rattle.policy.specs.declared.Sizes.{Sizes}
 use Rattle.message.specs.declared.Event.{Event}
 use Rattle.message.specs.declared.Event.the-variants.{Observation, Alive}
-use Rattle.knowledge.specs.Knowledge.{Knowledge, none, follow, steady, rises, level, word-sound, noted, valued, fact, number, is-point, is-none, sound, point-known, fresh, stored}
+use Rattle.knowledge.specs.Knowledge.{Knowledge, none, follow, steady, level, full, word-sound, noted, valued, fact, number, is-point, is-none, sound, point-known, fresh, stored}
 use Rattle.knowledge.specs.Outwards.{in-reach, places-read}
 
 -- one proposition, n components, four minutes: a run has five places, the first of which stands for "before minute 0"
@@ -102,11 +102,21 @@ pub record Pins : Type 0 where
   -- busy by the first alone, and by the middle one alone
   pub busy-by-first : by-three busy silent silent ≡ minutes true3 unknown unknown unknown
   pub busy-by-middle : by-three silent busy silent ≡ minutes true3 unknown unknown unknown
-  -- open otherwise: one observation in two minutes, neighbouring numbers two apart, and a full gap (two observations in two minutes; 01 asks for
-  -- neighbouring places)
+  -- 02, request 4: all minutes of a full gap are busy, of one that starts at the first place, one that ends at the last, and one between
+  pub busy-full-gap : by-two (run 0 u 2 u u) idle ≡ minutes true3 true3 unknown unknown
+  pub busy-to-the-last : by-two (run 0 0 u u 3) idle ≡ minutes false3 true3 true3 true3
+  pub busy-between : by-two (run 0 0 u 2 2) silent ≡ minutes unknown true3 true3 unknown
+  -- "A mixer lost two slips at minutes 0 and 1, then reported count 3 at minute 2": the minute itself by its own two numbers, the others by the run's
+  -- start and the number before
+  pub lost-two : by-two (run 0 u 2 3 u) silent ≡ minutes true3 true3 true3 unknown
+  -- by the last component alone, also where the others are known to be quiet, and where the first is open
+  pub busy-gap-by-last : by-three idle silent (run 0 u 2 u u) ≡ minutes true3 true3 unknown unknown
+  -- two full gaps, of different components
+  pub busy-by-turns : by-two (run 0 u 2 2 2) (run 0 0 0 u 2) ≡ minutes true3 true3 true3 true3
+  -- open otherwise: one observation in two minutes, two in three, and neighbouring numbers two apart
   pub open-gap : by-two (run 0 u 1 u u) idle ≡ minutes unknown unknown unknown unknown
+  pub open-one-short : by-two (run 0 u u 2 u) idle ≡ minutes unknown unknown unknown unknown
   pub open-two-apart : by-two (run 0 2 u u u) idle ≡ minutes unknown unknown unknown unknown
-  pub open-full-gap : by-two (run 0 u 2 u u) idle ≡ minutes unknown unknown unknown unknown
   -- a run's last place is not the next run's first
   pub open-at-the-end : by-two (run 0 0 0 0 u) idle ≡ minutes false3 false3 false3 unknown
   -- a search reads the nearest known places and those between: two where all are known, and the last minute's too
@@ -151,7 +161,7 @@ pub record Pins : Type 0 where
   pub beyond-policy : is-corrupt silent 2 0
 
 pub pins : Pins
-unfolding bit follow steady rises level word-sound noted valued number is-point is-none sound fresh stored in-reach places-read
+unfolding bit follow steady level full word-sound noted valued number is-point is-none sound fresh stored in-reach places-read
 pins = record {
   quiet-across-gap = refl;
   quiet-to-the-last = refl;
@@ -163,9 +173,15 @@ pins = record {
   busy-among-idle = refl;
   busy-by-first = refl;
   busy-by-middle = refl;
+  busy-full-gap = refl;
+  busy-to-the-last = refl;
+  busy-between = refl;
+  lost-two = refl;
+  busy-gap-by-last = refl;
+  busy-by-turns = refl;
   open-gap = refl;
+  open-one-short = refl;
   open-two-apart = refl;
-  open-full-gap = refl;
   open-at-the-end = refl;
   reads-known = refl;
   reads-gaps = refl;

@@ -5,12 +5,12 @@ use mathlib.Core.Bool.{Bool, cond, _&&_}
 use mathlib.Core.List.{List}
 use lib.Dec.{eqb}
 use lib.ListN.{getD, length}
-use Rattle.kleene.specs.Truth.{Truth, unknown, true3, false3, code-of, value-of, or3}
+use Rattle.kleene.specs.Truth.{Truth, code-of, value-of, or3}
 use Rattle.policy.specs.declared.Sizes.{Sizes}
 use Rattle.message.specs.declared.Event.{Event}
 use Rattle.message.specs.Fixes.{Message}
 use Rattle.knowledge.specs.declared.Found.{Found}
-use Rattle.knowledge.specs.Knowledge.{Knowledge, most-minutes, none, run-of, Steady, steady, rises, level, says, free-place, point-known}
+use Rattle.knowledge.specs.Knowledge.{Knowledge, most-minutes, none, run-of, Steady, steady, level, full, says, free-place, point-known}
 
 -- the run of a list
 abbrev pub cell : List ℕ → ℕ → ℕ
@@ -26,13 +26,13 @@ sent component event = record { component = component; event = event }
 
 -- what the run tells of minute t, of which there are m: did its component make an observation
 unfoldable pub told : (ℕ → ℕ) → ℕ → ℕ → Truth
-told f m t = says (rises f t) (level f m t)
+told f m t = says (full f m t) (level f m t)
 
--- what is told of each minute between two neighbouring known places, which stand d places apart: q says that the first of these minutes is quiet
-unfoldable pub gap : Bool → ℕ → Truth
-gap q d = cond q false3 (cond (eqb d 1) true3 unknown)
+-- a row of truth codes
+abbrev pub Codes : List ℕ → Type 0
+Codes row = (i : ℕ) → getD row i 0 < 3
 
--- a row of truth codes, with what x tells joined to each cell by Kleene's or
+-- the same with what x tells joined to each cell by Kleene's or
 abbrev pub joined : List ℕ → (ℕ → Truth) → ℕ → ℕ
 joined row x i = code-of (or3 (value-of (getD row i 0)) (x i))
 

@@ -2,11 +2,12 @@
 use Prim.Native.Nat.{ℕ, suc, _+_, _-_, _≤_, _<_}
 use native.Mathlib.Omega.{arith}
 use native.Mathlib.Decide.{decLt}
-use mathlib.Core.Path.{_≡_, sym, _∙_}
+use mathlib.Core.Path.{_≡_}
+use mathlib.Core.Bool.{Bool}
 use Rattle.decide.specs.Decide.{Decides}
 use Rattle.decide.specs.Laws.{same, less, most, equal, both, implies, each, some}
 use Rattle.policy.specs.declared.Sizes.{Sizes}
-use Rattle.knowledge.specs.Knowledge.{Knowledge, none, Follow, Steady, Rises, Level, follow, steady, rises, level, free-place, number, Sound}
+use Rattle.knowledge.specs.Knowledge.{Knowledge, none, Follow, Steady, Across, Equal, Apart, Level, Full, follow, steady, across, level, full, free-place, number, Sound}
 use Rattle.knowledge.specs.Run.{put, may, May, Steady-runs}
 
 pub follow-decides : (v w d : ℕ) → Decides (follow v w d) (Follow v w d)
@@ -20,15 +21,9 @@ steady-decides f n =
     (both (equal (f 0) 0)
     (each n _ _ (λ b. each b _ _ (λ a. implies (less (f a) none) (implies (less (f b) none) (follow-decides (f a) (f b) (b - a)))))))
 
-pub rises-decides : (f : ℕ → ℕ) (t : ℕ) → Decides (rises f t) (Rises f t)
-unfolding rises
-rises-decides f t =
-    same (λ h. record { before = h .0; after = h .1 .0; apart = h .1 .1 }) (λ h. (h .before, (h .after, h .apart)))
-    (both (less (f t) none) (both (less (f (suc t)) none) (equal (f (suc t)) (suc (f t)))))
-
-pub level-decides : (f : ℕ → ℕ) (m t : ℕ) → Decides (level f m t) (Level f m t)
-unfolding level
-level-decides f m t =
+pub across-decides : (r : ℕ → ℕ → ℕ → Bool) (R : ℕ → ℕ → ℕ → Type 0) → ((v w d : ℕ) → Decides (r v w d) (R v w d))
+    → (f : ℕ → ℕ) (m t : ℕ) → Decides (across r f m t) (Across R f m t)
+across-decides r R e f m t =
     same
     (λ h.
     let u = h .under in
@@ -42,7 +37,7 @@ level-decides f m t =
       late-in = omega arith;
       early-known = h .there .there .0;
       late-known = h .there .there .1 .0;
-      equal = h .there .there .1 .1;
+      related = h .there .there .1 .1;
     })
     (λ h.
     let a = h .early-before in
@@ -52,9 +47,17 @@ level-decides f m t =
       at = h .early;
       from = omega arith;
       under = omega arith;
-      there = record { at = h .late; from = omega arith; under = omega arith; there = (h .early-known, (h .late-known, h .equal)) };
+      there = record { at = h .late; from = omega arith; under = omega arith; there = (h .early-known, (h .late-known, h .related)) };
     })
-    (some 0 (suc t) _ _ (λ a. some (suc t) (m - t) _ _ (λ b. both (less (f a) none) (both (less (f b) none) (equal (f a) (f b))))))
+    (some 0 (suc t) _ _ (λ a. some (suc t) (m - t) _ _ (λ b. both (less (f a) none) (both (less (f b) none) (e (f a) (f b) (b - a))))))
+
+pub level-decides : (f : ℕ → ℕ) (m t : ℕ) → Decides (level f m t) (Level f m t)
+unfolding level
+level-decides = across-decides _ Equal (λ v w d. equal v w)
+
+pub full-decides : (f : ℕ → ℕ) (m t : ℕ) → Decides (full f m t) (Full f m t)
+unfolding full
+full-decides = across-decides _ Apart (λ v w d. equal w (v + d))
 
 pub free-place-decides : (f : ℕ → ℕ) (p v : ℕ) → Decides (free-place f p v) ((v < none) × (f p < none → f p ≡ v))
 free-place-decides f p v = both (less v none) (implies (less (f p) none) (equal (f p) v))
@@ -77,18 +80,34 @@ near f n S a b i j x y = go (decLt a b) (decLt b a)
 pub follow-up : (f : ℕ → ℕ) (n : ℕ) → Steady f n → (a b : ℕ) → f a < none → f b < none → a ≤ b → b < n → Follow (f a) (f b) (b - a)
 follow-up f n S a b k l h w = omega (arith, near f n S a b (omega arith) w k l, near f n S b a w (omega arith) l k)
 
--- a run does not both rise and stay level
-pub not-both : (f : ℕ → ℕ) (m t : ℕ) → Steady f (suc m) → t < m → Rises f t → Level f m t → ⊥
-not-both f m t S h r v =
-    let a = v .early-before in
-    let b = v .late-after in
-    let c = v .late-in in
+-- neighbouring numbers that are one apart are a full run
+pub one-step : (f : ℕ → ℕ) (m t : ℕ) → t < m → f t < none → f (suc t) < none → f (suc t) ≡ suc (f t) → Full f m t
+one-step f m t l x y e = record {
+  early = t;
+  late = suc t;
+  early-before = omega arith;
+  late-after = omega arith;
+  late-in = omega arith;
+  early-known = x;
+  late-known = y;
+  related = omega arith;
+}
+
+-- a steady run is not both full and level at a minute, whichever places say so
+pub not-both : (f : ℕ → ℕ) (m t : ℕ) → Steady f (suc m) → Full f m t → Level f m t → ⊥
+not-both f m t S u v =
+    let a = u .early-before in
+    let b = u .late-after in
+    let c = u .late-in in
+    let d = v .early-before in
+    let e = v .late-after in
+    let g = v .late-in in
     omega (
       arith,
-      r .apart,
-      v .equal,
-      near f (suc m) S (v .early) t (omega arith) (omega arith) (v .early-known) (r .before),
-      near f (suc m) S (suc t) (v .late) (omega arith) (omega arith) (r .after) (v .late-known),
+      u .related,
+      v .related,
+      near f (suc m) S (v .early) (u .early) (omega arith) (omega arith) (v .early-known) (u .early-known),
+      near f (suc m) S (u .late) (v .late) (omega arith) (omega arith) (u .late-known) (v .late-known),
     )
 
 -- g has all the known numbers of f, at the first n places
@@ -106,14 +125,8 @@ steady-less f g n z e S = record {
 }
 
 -- and one that knows more tells as much
-pub rises-more : (f g : ℕ → ℕ) (m t : ℕ) → t < m → Within f g (suc m) → Rises f t → Rises g t
-rises-more f g m t l e R =
-    let x = e t (omega arith) (R .before) in
-    let y = e (suc t) (omega arith) (R .after) in
-    record { before = rw x at (R .before); after = rw y at (R .after); apart = omega (arith, R .apart) }
-
-pub level-more : (f g : ℕ → ℕ) (m t : ℕ) → Within f g (suc m) → Level f m t → Level g m t
-level-more f g m t e v =
+pub across-more : (R : ℕ → ℕ → ℕ → Type 0) (f g : ℕ → ℕ) (m t : ℕ) → Within f g (suc m) → Across R f m t → Across R g m t
+across-more R f g m t e v =
     let a = v .early-before in
     let b = v .late-after in
     let c = v .late-in in
@@ -127,7 +140,7 @@ level-more f g m t e v =
       late-in = c;
       early-known = rw x at (v .early-known);
       late-known = rw y at (v .late-known);
-      equal = sym x ∙ v .equal ∙ y;
+      related = rw (x, y) at (v .related);
     }
 
 -- sound knowledge has steady runs

@@ -3,18 +3,18 @@ use message::Event;
 use policy::Sizes;
 ghost use mathlib.Core.Path.{_≡_};
 ghost use Prim.Native.Nat.{ℕ, suc, _+_, _-_, _*_, _^_, _≤_, _<_, min};
-ghost use mathlib.Core.Bool.{cond, _&&_};
+ghost use mathlib.Core.Bool.{true, false, not, cond, _&&_};
 ghost use lib.Bits.{bitOr};
 ghost use lib.ListN.{length, getD, set};
 ghost use Rattle.kleene.specs.Truth.{unknown, true3, false3, code-of, value-of, or3};
 ghost use Rattle.rows.specs.Over.{Over};
 ghost use Rattle.mtl.specs.Algebra.{two, all};
 ghost use Rattle.message.specs.Fixes.{Fits};
-ghost use Rattle.knowledge.specs.Knowledge.{most-minutes, run-of, Steady, follow, steady, word-sound, words-agree};
+ghost use Rattle.knowledge.specs.Knowledge.{most-minutes, run-of, Steady, follow, steady, says, word-sound, words-agree};
 ghost use Rattle.knowledge.specs.Knowledge.{Sized, Sound, sound, admits, stored};
 ghost use Rattle.knowledge.specs.Laws.{Limits};
-ghost use Rattle.knowledge.specs.Run.{cell, held, sent, told, gap, joined, may, may-observe, Forth, Back, Steady-runs, Point-row};
-ghost use Rattle.knowledge.specs.Outwards.{Outwards};
+ghost use Rattle.knowledge.specs.Run.{cell, held, sent, told, Codes, joined, may, may-observe, Forth, Back, Steady-runs, Point-row};
+ghost use Rattle.knowledge.specs.Outwards.{full-gap, Outwards};
 
 // A sequence number that is not known.
 pub const NONE: u16 = 65535;
@@ -134,12 +134,14 @@ fn previous_known(run: &[u16], place: usize) -> Found
 }
 
 // What a search outwards from a minute finds: whether the minute is quiet for the component (01), the places of the nearest known number
-// before the minute and of the nearest at or after it, and how many places it read. With none before it the first is the run's start, and
-// with none at or after it the second is the run's length.
+// before the minute and of the nearest at or after it, these two numbers, and how many places it read. With none before it the first place is
+// the run's start, with none at or after it the second is the run's length, and the number is NONE.
 pub struct Search {
     pub level: bool,
     pub before: usize,
     pub after: usize,
+    pub earlier: u16,
+    pub later: u16,
     pub reads: usize,
 }
 
@@ -159,8 +161,19 @@ pub fn search_outwards(run: &[u16], minute: usize) -> Search
         level: (v == w) & (v < NONE),
         before: back.place,
         after: forth.place,
+        earlier: v,
+        later: w,
         reads,
     }
+}
+
+// Is the minute busy by the component (02, request 4: a full run of counts)? The two numbers then differ by as much as their places.
+pub fn is_full(found: Search) -> bool
+    requires { ⌜ (found .before ≤ found .after) × (found .after ≤ suc most-minutes) ⌝ }
+    ensures { λ r. ⌜ r ≡ full-gap found ⌝ }
+{
+    let places = found.after - found.before;
+    (found.later as usize == found.earlier as usize + places) & (found.later < NONE)
 }
 
 // A number v, and a number w that stands d places later.
@@ -224,50 +237,35 @@ fn may_store(run: &[u16], place: usize, v: u16) -> bool
     true
 }
 
-// What each minute of a gap of more than one minute is told.
-fn gap_code(level: bool) -> u8
-    ensures { λ r. ⌜ r ≡ code-of (cond level false3 unknown) ⌝ }
-{
-    if level {
-        return 2;
-    }
-    0
-}
-
 // What is told of the one minute between two neighbouring known places, joined to its code: quiet leaves it as it is, and else it is busy.
 fn merge_step(x: u8, level: bool) -> u8
+    requires { ⌜ x < 3 ⌝ }
     ensures { λ r. ⌜ r ≡ code-of (or3 (value-of x) (cond level false3 true3)) ⌝ }
 {
     if !level {
         return 1;
     }
-    if x < 3 {
-        return x;
-    }
-    0
+    x
 }
 
-// What two tell of a minute together: busy if either says busy, quiet if both say quiet, and else open.
-fn merge(x: u8, y: u8) -> u8
-    ensures { λ r. ⌜ r ≡ code-of (or3 (value-of x) (value-of y)) ⌝ }
+// What a longer gap that is not quiet tells of a minute, joined to its code: if the gap is full the minute is busy, and else it is so only if it was.
+fn merge_wide(x: u8, full: bool) -> u8
+    ensures { λ r. ⌜ r ≡ code-of (or3 (value-of x) (cond full true3 unknown)) ⌝ }
 {
-    if (x == 1) | (y == 1) {
-        return 1;
+    if (x != 1) & !full {
+        return 0;
     }
-    if (x == 2) & (y == 2) {
-        return 2;
-    }
-    0
+    1
 }
 
-// Joins the cells from lo up to hi with a code.
-fn join(row: &mut [u8; MOST_MINUTES], lo: usize, hi: usize, code: u8)
+// Joins the cells from lo up to hi with what such a gap tells of each of them.
+fn join(row: &mut [u8; MOST_MINUTES], lo: usize, hi: usize, full: bool)
     requires { ⌜ (lo ≤ hi) × (hi ≤ most-minutes) × (length (now row) ≡ most-minutes) ⌝ }
-    ensures { λ _. ⌜ Over (joined (now (row .entry)) (λ _. value-of code)) lo hi (now (row .entry)) (now (row .exit)) ⌝ }
+    ensures { λ _. ⌜ Over (joined (now (row .entry)) (λ _. cond full true3 unknown)) lo hi (now (row .entry)) (now (row .exit)) ⌝ }
 {
     let mut i = lo;
     while i < hi {
-        row[i] = merge(row[i], code);
+        row[i] = merge_wide(row[i], full);
         i += 1;
     }
 }
@@ -282,23 +280,30 @@ fn smaller(x: usize, y: usize) -> usize
     y
 }
 
-// Joins the cells of a gap, as far as there are minutes, with what the search from its first minute tells of each of them. Most gaps of a full
-// record are one minute long and need no loop.
-fn join_gap(row: &mut [u8; MOST_MINUTES], found: Search, minutes: usize)
-    requires { ⌜ (found .before < found .after)
-        × (found .before < minutes)
+// Joins the cells of the gap that starts at a minute, as far as there are minutes, with what the search from there tells of each of them. Most
+// gaps of a full record are one minute long and need no loop; such a minute is busy if it is not quiet. A quiet gap leaves all cells as they are.
+fn join_gap(row: &mut [u8; MOST_MINUTES], minute: usize, found: Search, minutes: usize)
+    requires { ⌜ (minute < found .after)
+        × (found .before ≤ found .after)
+        × (found .after ≤ suc most-minutes)
+        × (minute < minutes)
         × (minutes ≤ most-minutes)
-        × (length (now row) ≡ most-minutes) ⌝ }
-    ensures { λ _. ⌜ Over (joined (now (row .entry)) (λ _. gap (found .level) (found .after - found .before))) (found .before)
-        (min (found .after) minutes) (now (row .entry)) (now (row .exit)) ⌝ }
+        × (length (now row) ≡ most-minutes)
+        × Codes (now row)
+        × (found .after ≡ suc minute → full-gap found ≡ not (found .level))
+        × (found .level ≡ true → full-gap found ≡ false) ⌝ }
+    ensures { λ _. ⌜ Over (joined (now (row .entry)) (λ _. says (full-gap found) (found .level))) minute (min (found .after) minutes)
+        (now (row .entry)) (now (row .exit)) ⌝ }
 {
-    let lo = found.before;
-    let hi = found.after;
-    if hi - lo == 1 {
-        row[lo] = merge_step(row[lo], found.level);
+    let last = found.after - 1;
+    if minute == last {
+        row[minute] = merge_step(row[minute], found.level);
         return;
     }
-    join(row, lo, smaller(hi, minutes), gap_code(found.level));
+    if found.level {
+        return;
+    }
+    join(row, minute, smaller(found.after, minutes), is_full(found));
 }
 
 // Joins a row with what the run tells of each minute: one search for each gap, from its first minute, so that no place is read more than
@@ -307,7 +312,8 @@ fn join_run(row: &mut [u8; MOST_MINUTES], run: &[u16])
     requires { ⌜ (0 < length (now run))
         × (length (now run) ≤ suc most-minutes)
         × Steady (cell (now run)) (length (now run))
-        × (length (now row) ≡ most-minutes) ⌝ }
+        × (length (now row) ≡ most-minutes)
+        × Codes (now row) ⌝ }
     ensures { λ _. ⌜ ((m : ℕ) → suc m ≡ length (now (run .entry))
         → Over (joined (now (row .entry)) (told (cell (now (run .entry))) m)) 0 m (now (row .entry)) (now (row .exit))) ⌝ }
 {
@@ -315,7 +321,7 @@ fn join_run(row: &mut [u8; MOST_MINUTES], run: &[u16])
     let mut minute: usize = 0;
     while minute < minutes {
         let found = search_outwards(run, minute);
-        join_gap(row, found, minutes);
+        join_gap(row, minute, found, minutes);
         minute = found.after;
     }
 }

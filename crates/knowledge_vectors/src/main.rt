@@ -3,8 +3,8 @@
 // A line is a vector, in hexadecimal with a space between bytes, where zeros at the end may be left out: propositions, components (at
 // most 2), minutes (2 bytes), the message's length and the message, the sequence numbers (2 bytes each), the facts (4 bytes each).
 // A line that starts with '?' is a search vector, its bytes right after that: minute (2 bytes), places of the run (2 bytes, 1 to 1,025) and
-// the sequence numbers (2 bytes each). Printed are the answer, the places of the nearest known numbers before the minute and at or after it
-// (- where there is none at or after it), and how many places were read.
+// the sequence numbers (2 bytes each). Printed are the answer (quiet, busy or open), the places of the nearest known numbers before the minute
+// and at or after it (- where there is none at or after it), and how many places were read.
 // A line that starts with '#' says what the next ones are, and is printed as it is.
 use knowledge::Search;
 use message::Event;
@@ -164,11 +164,16 @@ fn show_after(after: usize, places: usize) {
 }
 
 // What a search in a run of so many places found.
-fn show_found(found: Search, places: usize) {
-    if !found.level {
-        io::write_all(1, b"not ");
+fn show_found(found: Search, places: usize)
+    requires { ⌜ (found .before ≤ found .after) × (found .after ≤ 1025) ⌝ }
+{
+    if found.level {
+        io::write_all(1, b"quiet");
+    } else if knowledge::is_full(found) {
+        io::write_all(1, b"busy");
+    } else {
+        io::write_all(1, b"open");
     }
-    io::write_all(1, b"quiet");
     show_number(found.before as u64);
     show_after(found.after, places);
     show_number(found.reads as u64);

@@ -1,11 +1,11 @@
 -- What was demanded, as types. Read this file first; each statement stands below the sentence that it formalises. `demand-1`, `demand-2`,
--- `demand-3`, `packets`, `demand-3-packets` and `writers` of the crate demands have these types.
+-- `demand-3`, `packets`, `demand-3-packets`, `writers` and `time-points` of the crate demands have these types.
 --
 -- s are the bytes of a card, any bytes; `policy-of s` is what they say where they are accepted. x is a state: the four lent buffers, of any
 -- length and content. b are the bytes of a slip, any bytes; where packets are spoken of, b are the bytes of a packet and m those of a slip in it.
 use Prim.Native.Nat.{ℕ, _+_, _*_, _≤_, _<_}
 use mathlib.Core.Path.{_≡_}
-use mathlib.Core.Bool.{Bool, true, cond}
+use mathlib.Core.Bool.{Bool, true, false, cond}
 use mathlib.Core.Logic.{_⊎_, _↔_, _≢_}
 use mathlib.Core.List.{List, [], _∷_, _++_, map, List·Memᴰ}
 use lib.ListN.{getD, length, take}
@@ -35,7 +35,8 @@ use Rattle.message.specs.Encoded.{Is-message}
 use Rattle.message.specs.Fixes.{Message, Fixes-number, Fixes-fact, Well-formed, meaning-of}
 use Rattle.message.specs.Proper.{Cut as Cut-message}
 use Rattle.knowledge.specs.Trace.{Trace, Admits, Admits-all, time-point}
-use Rattle.knowledge.specs.Knowledge.{Knowledge, none, noted, valued, fact, number, Sound, Agrees, Known-point}
+use Rattle.knowledge.specs.Knowledge.{Knowledge, none, noted, valued, fact, number, Sound, Agrees, Known-point, Known-none}
+use Rattle.knowledge.specs.Exact.{Exact-points}
 use Rattle.valuation.specs.Sheets.{value, standing}
 use Rattle.monitor.specs.declared.Answer.{Answer}
 use Rattle.monitor.specs.declared.Answer.the-variants.{Done, Received, Refused}
@@ -405,3 +406,18 @@ pub record Writers : Type 0 where
   pub policies : Policy-round-trip
   pub messages : (z : Sizes) → Sizes-in z → Message-round-trip z
   pub under-policy : (s : List ℕ) → policy-answer s ≡ C.Accepted → Sizes-in (sizes-of s) × Encodes s
+
+-- ---- known busy and known quiet (02, request 4)
+
+-- "In a sound record a minute is then known busy exactly when it is busy in every shift that fits the record, and known quiet exactly when it is quiet in all
+-- of them; both are to be shown." The shifts are demand 3's: they may run past M. The record `Exact-points` of the crate knowledge has both sentences, and
+-- that an open minute is busy in one of these shifts and quiet in another
+pub record Time-points : Type 0 where
+  pub of-record : (z : Sizes) (k : Knowledge) → Sound z k → (t : ℕ) → t < z .minutes → Exact-points z k t
+  -- so, after any list of takes from a fresh record: exactly when it is so in every shift that could have sent the slips accepted
+  pub busy : (s : List ℕ) (x : State) → open-state s x .answer ≡ Done → (cs : List Call) (t : ℕ) → t < sizes-of s .minutes
+      → Known-point (sizes-of s) (after s x cs .known) t
+      ↔ ((w : Trace (sizes-of s)) → Admits-all (sizes-of s) w (accepted s x cs) → time-point (sizes-of s) w t ≡ true)
+  pub quiet : (s : List ℕ) (x : State) → open-state s x .answer ≡ Done → (cs : List Call) (t : ℕ) → t < sizes-of s .minutes
+      → Known-none (sizes-of s) (after s x cs .known) t
+      ↔ ((w : Trace (sizes-of s)) → Admits-all (sizes-of s) w (accepted s x cs) → time-point (sizes-of s) w t ≡ false)

@@ -13,7 +13,7 @@ use borrow.Author.Tests.{eqb-true, eq-eqb, ne-eqb}
 use Rattle.kleene.specs.Truth.{code-of}
 use Rattle.bits.specs.Bits.{bit, bit-of-zero}
 use Rattle.logic.specs.Bools.{both, pair}
-use Rattle.rows.specs.Grid.{table, table-length, table-at, place-of, in-grid, place-in}
+use Rattle.rows.specs.Grid.{table, table-length, table-at, place-of, in-grid}
 use Rattle.refusal.specs.declared.Answer.{Answer as Checked}
 use Rattle.refusal.specs.declared.Answer.the-variants as C
 use Rattle.refusal.specs.Checks.{first-failed, and-then, pass, none as none-left}
@@ -90,18 +90,19 @@ module _ (c : Policy) where
     propositions = λ i t l h e. absurd (true≢false (sym e ∙ fresh-noted i t));
   }
 
-  -- no minute of the fresh record is time-point
-  fresh-open : (t : ℕ) → t < c .sizes .minutes → is-point (c .sizes) (fresh (c .sizes)) t ≡ false
-  fresh-open t h = go (is-point (c .sizes) (fresh (c .sizes)) t) refl
+  -- no minute of the fresh record is known busy: no number after the first is known
+  fresh-open : (t : ℕ) → is-point (c .sizes) (fresh (c .sizes)) t ≡ false
+  fresh-open t = go (is-point (c .sizes) (fresh (c .sizes)) t) refl
     where
       go : (b : Bool) → is-point (c .sizes) (fresh (c .sizes)) t ≡ b → is-point (c .sizes) (fresh (c .sizes)) t ≡ false
       go false e = e
       go true e =
           let k = point-law (c .sizes) (fresh (c .sizes)) t .0 e in
-          absurd (omega (arith, fresh-known (k .component) (suc t) (number (c .sizes) (fresh (c .sizes)) (k .component) (suc t)) (k .is-component) h (k .rise .after) refl))
+          let v = k .full-run in
+          absurd (omega (arith, v .late-after, fresh-known (k .component) (v .late) (number (c .sizes) (fresh (c .sizes)) (k .component) (v .late)) (k .is-component) (v .late-in) (v .late-known) refl))
 
-  fresh-verdict : (r t : ℕ) → t < c .sizes .minutes → verdict c (fresh (c .sizes)) r t ≡ 0
-  fresh-verdict r t h = ap (λ (x : Bool). cond x (code-of (value c (fresh (c .sizes)) (getD (rules-of c) r 0) t)) 0) (fresh-open t h)
+  fresh-verdict : (r t : ℕ) → verdict c (fresh (c .sizes)) r t ≡ 0
+  fresh-verdict r t = ap (λ (x : Bool). cond x (code-of (value c (fresh (c .sizes)) (getD (rules-of c) r 0) t)) 0) (fresh-open t)
 
   pub blank-sheet : replicate (c .rules * c .sizes .minutes) 0 ≡ verdicts-of c (fresh (c .sizes))
   unfolding verdicts-of
@@ -113,11 +114,7 @@ module _ (c : Policy) where
           let l : i < c .rules * c .sizes .minutes = rw (length-replicate {A = ℕ} (c .rules * c .sizes .minutes) 0) at h in
           getD-replicate (c .rules * c .sizes .minutes) i 0 0 l
           ∙ sym (table-at (c .rules * c .sizes .minutes) (λ i. verdict c (fresh (c .sizes)) (i / c .sizes .minutes) (i % c .sizes .minutes)) i 0 l
-          ∙ fresh-verdict (i / c .sizes .minutes) (i % c .sizes .minutes) (place-in (c .sizes .minutes) i (some (c .sizes .minutes) l)))
-        where
-          some : (m : ℕ) → i < c .rules * m → 0 < m
-          some zero l = absurd (omega arith)
-          some (suc m) l = omega arith
+          ∙ fresh-verdict (i / c .sizes .minutes) (i % c .sizes .minutes))
 
   pub lengths : (length (fresh (c .sizes) .numbers) ≡ c .sizes .components * suc (c .sizes .minutes)) × (length (fresh (c .sizes) .facts) ≡ 2 * c .sizes .minutes) × (length (valuation-of c (fresh (c .sizes))) ≡ c .count * c .sizes .minutes)
   unfolding fresh valuation-of

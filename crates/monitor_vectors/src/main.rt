@@ -459,6 +459,30 @@ fn no_time_point() {
     );
 }
 
+// A policy whose one rule is true, so that its verdicts show which minutes are known to be time points: a component lost two messages at minutes
+// 0 and 1, then reported number 3 at minute 2; reported number 2 there, and then none before minute 1; or was alive at minute 3 after three.
+fn full_runs() {
+    let policy = b"\x01\x01\x04\x00\x01\x20";
+    run(
+        b"two messages lost: number 3 at minute 2\n",
+        parts_of(1),
+        policy,
+        b"\x05\x06\x02\x00\x03\x00",
+    );
+    run(
+        b"one message lost: number 2 at minute 2, and none before minute 1\n",
+        parts_of(1),
+        policy,
+        b"\x05\x06\x02\x00\x02\x00\x03\x12\x01\x00",
+    );
+    run(
+        b"all messages lost: alive at minute 3 after three\n",
+        parts_of(1),
+        policy,
+        b"\x05\x16\x03\x00\x03\x00",
+    );
+}
+
 // K with its last line proposition 0 within the next minute.
 fn next_minute() {
     let policy = b"\x01\x01\x04\x00\x03\x00\x01\x01\x35\x05\x01\x01\x00";
@@ -646,6 +670,7 @@ fn main() {
     conflicting_packets();
     packets_past_the_last_minute();
     no_time_point();
+    full_runs();
     next_minute();
     wrong_sizes();
     overwritten_states();

@@ -1,16 +1,17 @@
 -- `knowledge::join_run` meets its contract. The loop's invariant: the minute is the first of a gap, or the minutes are through, and the row is joined
 -- with what the run tells of those before it. The measure is how many minutes are left. Assumes nothing.
-use mathlib.Core.Path.{_≡_, ap, subst, _∙_}
+use mathlib.Core.Path.{_≡_, subst, _∙_}
 use Prim.Native.Nat.{ℕ, suc, _-_, _≤_, _<_, min}
 use native.Mathlib.Omega.{arith}
 use denote.Ref.{now}
 use lib.ListN.{length}
 use Rattle.rows.specs.Over.{Over}
 use Rattle.rows.specs.Laws.{untouched}
-use Rattle.knowledge.specs.Knowledge.{none, most-minutes}
-use Rattle.knowledge.specs.Run.{cell, joined, told, gap}
+use Rattle.knowledge.specs.Knowledge.{none, most-minutes, says}
+use Rattle.knowledge.specs.Run.{cell, joined, told}
+use Rattle.knowledge.specs.Outwards.{full-gap}
 use Rattle.knowledge.proofs.Gap.{found-gap, each-minute}
-use Rattle.knowledge.proofs.Points.{stretch}
+use Rattle.knowledge.proofs.Points.{codes-kept, stretch}
 use Rattle.knowledge.proofs.join_run.Statement.{statement}
 use Rattle.knowledge.proofs.join_run.Tie as tie
 
@@ -49,7 +50,17 @@ join-gap-requires c κs =
     let g = found-gap _ _ (l .minute) (r .result) (s .pre .2) (omega arith) (l .inv .2 (omega arith)) (r .ensures) in
     let at = g .0 in
     let past = g .1 .ends .past in
-    (omega arith, omega arith, omega arith, l .inv .0)
+    let within = g .1 .ends .within in (
+      omega arith,
+      omega arith,
+      omega arith,
+      omega arith,
+      omega arith,
+      l .inv .0,
+      codes-kept _ _ _ _ _ (s .pre .4) (l .inv .3),
+      λ e. g .1 .alone (omega arith) (omega arith),
+      g .1 .one-of-two,
+    )
 
 loop-less : tie.Need-loop-less Inv-loop μ-loop
 loop-less c =
@@ -75,15 +86,15 @@ loop-again c =
     let g = found-gap f _ (l .minute) found (s .pre .2) (omega arith) (v .2 (omega arith)) (r .ensures) in
     let at = g .0 in
     let past = g .1 .ends .past in
-    let here : min (l .minute) m ≡ found .before = omega arith in (
+    let here : min (l .minute) m ≡ l .minute = omega arith in (
       over .long ∙ v .0,
       v .1,
       λ w. g .1 .ends .there (omega arith),
-      stretch f m (found .before) (min (found .after) m) old (l .row) _ (gap (found .level) (found .after - found .before))
+      stretch f m (l .minute) (min (found .after) m) old (l .row) _ (says (full-gap found) (found .level))
           (subst (λ (n : ℕ). Over (joined old (told f m)) 0 n old (l .row)) here (v .3)) over (omega arith)
           (λ t from to.
-          ap (λ b. gap b (found .after - found .before)) (g .1 .answer m (v .1))
-          ∙ each-minute f m (found .before) (found .after) (g .1 .known) (rw (v .1) (g .1 .ends)) (rw (v .1) (s .pre .2)) t from (omega arith) (omega arith)),
+          g .1 .answer m (v .1)
+          ∙ each-minute f m (found .before) (found .after) (g .1 .known) (rw (v .1) (g .1 .ends)) (rw (v .1) (s .pre .2)) t (omega arith) (omega arith)),
     )
 
 returns : tie.Need-returns Inv-loop μ-loop

@@ -10,7 +10,7 @@ use Rattle.kleene.specs.Truth.{code-of}
 use Rattle.rows.specs.Laws.{zeros}
 use Rattle.knowledge.specs.Knowledge.{most-minutes}
 use Rattle.knowledge.proofs.Parts.{part-long, part-is-steady, part-told, one-run, room}
-use Rattle.knowledge.proofs.Points.{points, all-points, one-more-run}
+use Rattle.knowledge.proofs.Points.{points, all-points, row-codes, one-more-run}
 use Rattle.knowledge.proofs.point_row.Statement.{statement}
 use Rattle.knowledge.proofs.point_row.Tie as tie
 
@@ -84,6 +84,7 @@ join-run-requires c κs =
       omega arith,
       part-is-steady numbers (z .minutes) (z .components) (l .loop .c) (l .loop .at) (s .pre .1) i (l .loop .inv .1) (s .pre .2 (l .loop .c) i),
       l .loop .inv .2,
+      row-codes (points numbers (z .minutes) (l .loop .c)) (z .minutes) (l .loop .row) (l .loop .inv .3) (l .loop .inv .4),
     )
 
 add-c : tie.Need-add-c Inv-loop μ-loop

@@ -34,8 +34,22 @@ returns c m e =
     let found =
     outwards f m (x .minute) (back .result) (forth .result) (omega arith) (back .ensures)
     (subst (λ (n : ℕ). Forth f n (x .minute + 1) (forth .result)) (sym e) (forth .ensures)) in
-    record { answer = found .answer; before = found .before; after = found .after; reads = found .reads }
+    record {
+      answer = found .answer;
+      full-answer = found .full-answer;
+      before = found .before;
+      after = found .after;
+      earlier = found .earlier;
+      later = found .later;
+      reads = found .reads;
+    }
 
 pub search-outwards-spec : {M : Type 1} → statement M
 search-outwards-spec =
-    tie.close (tie.spec add-from previous-known-requires next-known-requires add-reads returns)
+    tie.close
+    (tie.spec
+    add-from
+    previous-known-requires
+    next-known-requires
+    add-reads
+    returns)
