@@ -115,7 +115,8 @@ pub record Small-packets (x : State) : Type 0 where
   pub empty-state : frame x [] .state ≡ after K x []
 
 -- 02, request 4: "A mixer lost two slips at minutes 0 and 1, then reported count 3 at minute 2." Under T, whose one rule is "true", the sheet shows kept at
--- the minutes known busy, and blank elsewhere
+-- the minutes known busy, and blank elsewhere. The starred cases above are as they were before this request: each minute that is busy by a full run there
+-- is busy by neighbouring counts too
 abbrev T : List ℕ
 T = 0x01 ∷ 0x01 ∷ 0x04 ∷ 0x00 ∷ 0x01 ∷ 0x20 ∷ []
 
