@@ -3,13 +3,15 @@
    A call gives 0, or the number of its refusal, and writes *detail: the place of a refusal (0 where it has none), how many
    verdicts stand after zankezurt_receive, the verdict that zankezurt_lookup shows, the length of what zankezurt_encode_policy or
    zankezurt_encode_message wrote, 0 after zankezurt_open. zankezurt_receive_packet writes *taken and *place instead. Nothing is
-   asked of what the bytes, buffers and numbers hold, nor of lengths, and a refused call changes no buffer; of a packet this is meant
-   of each message, and those taken before the refusal remain taken.
+   asked of what the bytes, buffers and numbers hold, nor of lengths, and a refused call changes no buffer and no *extent; of a packet
+   this is meant of each message, and those taken before the refusal remain taken.
 
    What C itself asks of a caller: each pointer is aligned for its type and points to as many elements as its length says, fields to
-   64 lines; a policy, message or packet of length 0 may be NULL, a buffer (out too, even of length 0), fields, detail, taken and
-   place may not; nothing that a call writes, *detail, *taken and *place too, overlaps anything else that it is lent. No pointer is
-   kept after a call. docs/EMBEDDING.md has stack, time, threads and power cuts. */
+   64 lines, extent, detail, taken and place to one number; a policy, message or packet of length 0 may be NULL, a buffer (out too,
+   even of length 0), fields, extent, detail, taken and place may not; nothing that a call may write (the whole lent state, out,
+   *detail, *taken and *place) overlaps anything else that it is lent. So the policy that stands in a state's origin may not be lent
+   from there together with that state, tempting as it is: the policy has memory of its own. No pointer is kept after a call.
+   docs/EMBEDDING.md has stack, time, threads and power cuts. */
 #ifndef ZANKEZURT_H
 #define ZANKEZURT_H
 
@@ -18,7 +20,7 @@
 
 /* The version of this header; zankezurt_version tells that of the archive. */
 #define ZANKEZURT_VERSION_MAJOR 0
-#define ZANKEZURT_VERSION_MINOR 1
+#define ZANKEZURT_VERSION_MINOR 2
 #define ZANKEZURT_VERSION_PATCH 0
 #define ZANKEZURT_VERSION (10000 * ZANKEZURT_VERSION_MAJOR + 100 * ZANKEZURT_VERSION_MINOR + ZANKEZURT_VERSION_PATCH)
 
@@ -41,7 +43,8 @@ enum zankezurt_refusal {
     ZANKEZURT_BAD_MESSAGE = 8,      /* the message breaks a rule of the format or a range of the policy */
     ZANKEZURT_CONFLICT = 9,         /* no run of the components agrees with what is known and the message */
     ZANKEZURT_OUT_OF_RANGE = 10,    /* a look at a rule or minute that the policy does not have */
-    ZANKEZURT_SHORT_BUFFER = 11     /* the buffer is shorter than the text */
+    ZANKEZURT_SHORT_BUFFER = 11,    /* the buffer is shorter than the text */
+    ZANKEZURT_OTHER_POLICY = 12     /* the state was opened under another policy */
 };
 
 /* What the verdict sheet shows: blank, kept or broken. */
@@ -51,29 +54,47 @@ enum zankezurt_verdict {
     ZANKEZURT_VIOLATED = 2
 };
 
-/* The exact lengths of the four buffers, in elements, from the sizes of the policy. */
+/* Lengths of buffers, in bytes, into which everything can be written. */
+#define ZANKEZURT_POLICY_LENGTH 517 /* no policy is longer */
+#define ZANKEZURT_MESSAGE_LENGTH 14 /* no message is longer */
+
+/* The exact lengths of four buffers, in elements, from the sizes of the policy. The fifth, origin, always has
+   ZANKEZURT_POLICY_LENGTH bytes. */
 #define ZANKEZURT_NUMBERS_LENGTH(components, minutes) ((size_t)(components) * ((size_t)(minutes) + 1))
 #define ZANKEZURT_FACTS_LENGTH(minutes) (2 * (size_t)(minutes))
 #define ZANKEZURT_VALUATION_LENGTH(subformulas, minutes) ((size_t)(subformulas) * (size_t)(minutes))
 #define ZANKEZURT_VERDICTS_LENGTH(rules, minutes) ((size_t)(rules) * (size_t)(minutes))
 
-/* The type of a state, four buffers of their exact lengths, where the sizes of the policy are constants. */
+/* The type of a state, where the sizes of the policy are constants: buffers of their exact lengths, and a number. */
 #define ZANKEZURT_STATE(components, minutes, subformulas, rules)                                                                 \
     struct {                                                                                                                     \
         uint16_t numbers[ZANKEZURT_NUMBERS_LENGTH(components, minutes)];                                                         \
         uint32_t facts[ZANKEZURT_FACTS_LENGTH(minutes)];                                                                         \
         uint8_t valuation[ZANKEZURT_VALUATION_LENGTH(subformulas, minutes)];                                                     \
         uint8_t verdicts[ZANKEZURT_VERDICTS_LENGTH(rules, minutes)];                                                             \
+        uint8_t origin[ZANKEZURT_POLICY_LENGTH]; /* the policy that it was opened under, and then zeros */                       \
+        uint16_t extent;                         /* that policy's length */                                                      \
     }
 
-/* Such a state as zankezurt_open, zankezurt_receive and zankezurt_receive_packet want it: each buffer and its length. */
+/* Such a state as zankezurt_open, zankezurt_receive and zankezurt_receive_packet want it: each buffer and its length, and where the
+   number stands. */
 #define ZANKEZURT_LENT(state)                                                                                                    \
     (state).numbers, sizeof (state).numbers / sizeof (uint16_t), (state).facts, sizeof (state).facts / sizeof (uint32_t),        \
-        (state).valuation, sizeof (state).valuation, (state).verdicts, sizeof (state).verdicts
+        (state).valuation, sizeof (state).valuation, (state).verdicts, sizeof (state).verdicts,                                  \
+        (state).origin, sizeof (state).origin, &(state).extent
 
-/* Lengths of buffers, in bytes, into which everything can be written. */
-#define ZANKEZURT_POLICY_LENGTH 517 /* no policy is longer */
-#define ZANKEZURT_MESSAGE_LENGTH 14 /* no message is longer */
+/* The lent state among the parameters of the three calls, which those arguments stand for. A function of one's own that has the same
+   parameters hands them on as ZANKEZURT_STATE_ARGUMENTS. */
+#define ZANKEZURT_STATE_PARAMETERS                                                                                               \
+    uint16_t *numbers, size_t numbers_length,                                                                                    \
+    uint32_t *facts, size_t facts_length,                                                                                        \
+    uint8_t *valuation, size_t valuation_length,                                                                                 \
+    uint8_t *verdicts, size_t verdicts_length,                                                                                   \
+    uint8_t *origin, size_t origin_length,                                                                                       \
+    uint16_t *extent
+#define ZANKEZURT_STATE_ARGUMENTS                                                                                                \
+    numbers, numbers_length, facts, facts_length, valuation, valuation_length, verdicts, verdicts_length, origin, origin_length, \
+        extent
 
 /* One line of a policy, as zankezurt_encode_policy wants it: what its kind has no use for is 0. docs/FORMAT.md has the kinds and the
    ranges. */
@@ -82,21 +103,16 @@ struct zankezurt_line {
     uint16_t rule; /* 0 no, any other number yes */
 };
 
-/* Opens the lent state under a policy, whatever the buffers held: nothing is known, and every verdict is blank. */
+/* Opens the lent state under a policy, whatever it held: nothing is known, every verdict is blank, and origin and extent hold the
+   policy. */
 uint8_t zankezurt_open(const uint8_t *policy, size_t policy_length,
-                       uint16_t *numbers, size_t numbers_length,
-                       uint32_t *facts, size_t facts_length,
-                       uint8_t *valuation, size_t valuation_length,
-                       uint8_t *verdicts, size_t verdicts_length,
+                       ZANKEZURT_STATE_PARAMETERS,
                        size_t *detail);
 
-/* Takes one message, of any bytes, into the lent state. */
+/* Takes one message, of any bytes, into the lent state. The policy is the one that the state was opened under; else 12 is given. */
 uint8_t zankezurt_receive(const uint8_t *policy, size_t policy_length,
                           const uint8_t *message, size_t message_length,
-                          uint16_t *numbers, size_t numbers_length,
-                          uint32_t *facts, size_t facts_length,
-                          uint8_t *valuation, size_t valuation_length,
-                          uint8_t *verdicts, size_t verdicts_length,
+                          ZANKEZURT_STATE_PARAMETERS,
                           size_t *detail);
 
 /* Takes the messages of a packet, which stand end to end, until the packet ends or one is refused; leaves the lent state as taking
@@ -104,13 +120,10 @@ uint8_t zankezurt_receive(const uint8_t *policy, size_t policy_length,
    takes none, but policy and state are checked. */
 uint8_t zankezurt_receive_packet(const uint8_t *policy, size_t policy_length,
                                  const uint8_t *packet, size_t packet_length,
-                                 uint16_t *numbers, size_t numbers_length,
-                                 uint32_t *facts, size_t facts_length,
-                                 uint8_t *valuation, size_t valuation_length,
-                                 uint8_t *verdicts, size_t verdicts_length,
+                                 ZANKEZURT_STATE_PARAMETERS,
                                  size_t *taken, size_t *place);
 
-/* The verdict of a rule at a minute, from the lent verdict sheet. */
+/* The verdict of a rule at a minute, from the lent verdict sheet. A sheet does not tell the policy that it was worked under. */
 uint8_t zankezurt_lookup(const uint8_t *policy, size_t policy_length,
                          const uint8_t *verdicts, size_t verdicts_length,
                          size_t rule, size_t minute,
@@ -146,40 +159,28 @@ static inline const uint8_t *zankezurt_bytes(const uint8_t *bytes, size_t length
 }
 
 static inline uint8_t zankezurt_open_bytes(const uint8_t *policy, size_t policy_length,
-                                           uint16_t *numbers, size_t numbers_length,
-                                           uint32_t *facts, size_t facts_length,
-                                           uint8_t *valuation, size_t valuation_length,
-                                           uint8_t *verdicts, size_t verdicts_length,
+                                           ZANKEZURT_STATE_PARAMETERS,
                                            size_t *detail)
 {
-    return zankezurt_open(zankezurt_bytes(policy, policy_length), policy_length, numbers, numbers_length,
-                          facts, facts_length, valuation, valuation_length, verdicts, verdicts_length, detail);
+    return zankezurt_open(zankezurt_bytes(policy, policy_length), policy_length, ZANKEZURT_STATE_ARGUMENTS, detail);
 }
 
 static inline uint8_t zankezurt_receive_bytes(const uint8_t *policy, size_t policy_length,
                                               const uint8_t *message, size_t message_length,
-                                              uint16_t *numbers, size_t numbers_length,
-                                              uint32_t *facts, size_t facts_length,
-                                              uint8_t *valuation, size_t valuation_length,
-                                              uint8_t *verdicts, size_t verdicts_length,
+                                              ZANKEZURT_STATE_PARAMETERS,
                                               size_t *detail)
 {
     return zankezurt_receive(zankezurt_bytes(policy, policy_length), policy_length,
-                             zankezurt_bytes(message, message_length), message_length, numbers, numbers_length,
-                             facts, facts_length, valuation, valuation_length, verdicts, verdicts_length, detail);
+                             zankezurt_bytes(message, message_length), message_length, ZANKEZURT_STATE_ARGUMENTS, detail);
 }
 
 static inline uint8_t zankezurt_receive_packet_bytes(const uint8_t *policy, size_t policy_length,
                                                      const uint8_t *packet, size_t packet_length,
-                                                     uint16_t *numbers, size_t numbers_length,
-                                                     uint32_t *facts, size_t facts_length,
-                                                     uint8_t *valuation, size_t valuation_length,
-                                                     uint8_t *verdicts, size_t verdicts_length,
+                                                     ZANKEZURT_STATE_PARAMETERS,
                                                      size_t *taken, size_t *place)
 {
     return zankezurt_receive_packet(zankezurt_bytes(policy, policy_length), policy_length,
-                                    zankezurt_bytes(packet, packet_length), packet_length, numbers, numbers_length,
-                                    facts, facts_length, valuation, valuation_length, verdicts, verdicts_length, taken, place);
+                                    zankezurt_bytes(packet, packet_length), packet_length, ZANKEZURT_STATE_ARGUMENTS, taken, place);
 }
 
 static inline uint8_t zankezurt_lookup_bytes(const uint8_t *policy, size_t policy_length,

@@ -2,7 +2,7 @@
 
 use crate::plain;
 use crate::timing::Take;
-use crate::workload::Workload;
+use crate::workload::{lent, Workload};
 use oracle::knowledge::time_points_of_many;
 use oracle::{reading, Buffers};
 use std::hint::black_box;
@@ -59,14 +59,8 @@ impl Take for Contender {
     fn take(&self, workload: &mut Workload) -> usize {
         let Workload { policy, encoded, message, buffers } = workload;
         match self {
-            Contender::Monitor => {
-                let Buffers { numbers, facts, valuation, verdicts } = buffers;
-                zankezurt::receive(encoded, message, numbers, facts, valuation, verdicts).expect("a take")
-            }
-            Contender::Plain => {
-                let Buffers { numbers, facts, valuation, verdicts } = buffers;
-                plain::receive(encoded, message, numbers, facts, valuation, verdicts).expect("a take")
-            }
+            Contender::Monitor => zankezurt::receive(encoded, message, &mut lent(buffers)).expect("a take"),
+            Contender::Plain => plain::receive(encoded, message, &mut lent(buffers)).expect("a take"),
             Contender::Sums => {
                 buffers.valuation = reading::valuation(policy, buffers);
                 conclude(policy, buffers)

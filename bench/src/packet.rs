@@ -1,7 +1,6 @@
 //! Times of a packet and of the takes of its messages, under the largest policy and with a full record.
 
-use crate::workload::{known_messages, Record, Workload, LARGEST};
-use oracle::Buffers;
+use crate::workload::{known_messages, lent, Record, Workload, LARGEST};
 use std::time::Instant;
 
 /// Seconds of a packet of so many messages, and of taking them one by one, in turns and so many times over.
@@ -25,11 +24,9 @@ fn seconds(calls: impl FnOnce()) -> f64 {
 
 /// How many messages of the packet are taken.
 fn take_packet(workload: &mut Workload, packet: &[u8]) -> usize {
-    let Workload { encoded, buffers: Buffers { numbers, facts, valuation, verdicts }, .. } = workload;
-    zankezurt::receive_packet(encoded, packet, numbers, facts, valuation, verdicts).taken
+    zankezurt::receive_packet(&workload.encoded, packet, &mut lent(&mut workload.buffers)).taken
 }
 
 fn take(workload: &mut Workload, message: &[u8]) {
-    let Workload { encoded, buffers: Buffers { numbers, facts, valuation, verdicts }, .. } = workload;
-    zankezurt::receive(encoded, message, numbers, facts, valuation, verdicts).expect("a take");
+    zankezurt::receive(&workload.encoded, message, &mut lent(&mut workload.buffers)).expect("a take");
 }

@@ -1,10 +1,11 @@
 //! What is measured: policies of chosen sizes, and records that know everything, nothing or bunches of a random trace.
 
 use oracle::generate::{encode_message, encode_policy, Random};
-use oracle::knowledge::NOT_KNOWN;
+use oracle::knowledge::{origin_of, NOT_KNOWN};
 use oracle::message::{Event, Message};
 use oracle::policy::{Formula, Policy, Subformula, Temporal, HIGHEST_BOUND};
 use oracle::Buffers;
+use zankezurt::State;
 
 /// A take: the policy's and message's bytes, and the lent buffers.
 pub struct Workload {
@@ -12,6 +13,12 @@ pub struct Workload {
     pub encoded: Vec<u8>,
     pub message: Vec<u8>,
     pub buffers: Buffers,
+}
+
+/// The buffers, as the calls want them.
+pub fn lent(buffers: &mut Buffers) -> State<'_> {
+    let Buffers { numbers, facts, valuation, verdicts, origin, extent } = buffers;
+    State { numbers, facts, valuation, verdicts, origin, extent }
 }
 
 /// How much of the random trace the record knows.
@@ -144,6 +151,8 @@ impl Workload {
         let mut buffers = full_record(&mut random, &policy);
         record.thin(&policy, &mut buffers);
         let message = known_message(&policy, &buffers);
-        Workload { encoded: encode_policy(&policy), policy, message, buffers }
+        let encoded = encode_policy(&policy);
+        (buffers.origin, buffers.extent) = origin_of(&encoded);
+        Workload { encoded, policy, message, buffers }
     }
 }

@@ -75,7 +75,7 @@ calling || (/R_X86_64_PLT32/) {
 END {
     if (stopped)
         exit 1
-    split("encode_message 11 encode_policy 8 lookup 7 open 11 receive 13 receive_packet 14 version 0", calls, " ")
+    split("encode_message 11 encode_policy 8 lookup 7 open 14 receive 16 receive_packet 17 version 0", calls, " ")
     for (i = 1; i in calls; i += 2) {
         name = "zankezurt_" calls[i]
         if (!(name in frame))

@@ -2,16 +2,14 @@
 //! that is measured.
 
 use bench::plain;
-use bench::workload::{Record, Shape, Workload, LARGEST};
+use bench::workload::{lent, Record, Shape, Workload, LARGEST};
 use oracle::generate::{self, Limits, Random};
 use oracle::Buffers;
 
 /// Offers a message to both, which must answer alike and leave the same buffers; is it taken?
 fn both(policy: &[u8], message: &[u8], monitor: &mut Buffers, other: &mut Buffers) -> bool {
-    let Buffers { numbers, facts, valuation, verdicts } = &mut *monitor;
-    let expected = zankezurt::receive(policy, message, numbers, facts, valuation, verdicts);
-    let Buffers { numbers, facts, valuation, verdicts } = &mut *other;
-    let answer = plain::receive(policy, message, numbers, facts, valuation, verdicts);
+    let expected = zankezurt::receive(policy, message, &mut lent(monitor));
+    let answer = plain::receive(policy, message, &mut lent(other));
     assert_eq!(answer, expected.map_err(|r| (r.reason.number(), r.place)));
     assert_eq!(other, monitor);
     answer.is_ok()
@@ -25,8 +23,7 @@ fn compare(seed: u64, limits: &Limits, lists: usize) -> usize {
         let bytes = generate::encode_policy(&policy);
         let trace = generate::trace(&mut random, &policy, 2);
         let mut monitor = Buffers::sized(&policy);
-        let Buffers { numbers, facts, valuation, verdicts } = &mut monitor;
-        zankezurt::open(&bytes, numbers, facts, valuation, verdicts).unwrap();
+        zankezurt::open(&bytes, &mut lent(&mut monitor)).unwrap();
         let mut other = monitor.clone();
         for message in generate::offers(&mut random, &policy, &trace, 12) {
             taken += both(&bytes, &message, &mut monitor, &mut other) as usize;
@@ -66,6 +63,30 @@ fn is_the_same_with_the_records_that_are_measured() {
         }
         (0..4).for_each(|_| compare_record(&mut random, &LARGEST, record));
     }
+}
+
+/// Both refuse a state that opening the policy does not write: a byte of the origin, the extent or a length is another, and also where the
+/// record is not sound.
+#[test]
+fn is_the_same_with_states_of_other_policies() {
+    let Workload { encoded, message, buffers, .. } = Workload::new(&Shape { minutes: 4, ..LARGEST }, Record::Full);
+    let refuse = |damage: &dyn Fn(&mut Buffers)| {
+        let mut monitor = buffers.clone();
+        damage(&mut monitor);
+        let mut other = monitor.clone();
+        assert!(!both(&encoded, &message, &mut monitor, &mut other));
+    };
+    for at in 0..buffers.origin.len() {
+        refuse(&|state| state.origin[at] ^= 1);
+    }
+    for extent in [0, buffers.extent - 1, buffers.extent + 1, buffers.extent + 256, u16::MAX] {
+        refuse(&|state| state.extent = extent);
+    }
+    for length in [0, buffers.origin.len() - 1, buffers.origin.len() + 1] {
+        refuse(&|state| state.origin.resize(length, 0));
+    }
+    refuse(&|state| state.numbers[0] = 1);
+    refuse(&|state| (state.numbers[0], state.extent) = (1, 0));
 }
 
 /// How much of a run is known.

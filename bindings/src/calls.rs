@@ -4,6 +4,7 @@
 use crate::archive;
 use crate::fields::{Line, Message};
 use crate::refusal::{Reason, Refusal};
+use crate::state::State;
 use core::fmt;
 
 /// What the verdict sheet shows of a rule at a minute.
@@ -59,13 +60,14 @@ fn answer((number, detail): (u8, usize)) -> Result<usize, Refusal> {
     }
 }
 
-/// Calls a function of the archive: slices that it reads, plain numbers or references, slices that it writes. Gives its number and its
-/// details.
+/// Calls a function of the archive: slices that it reads, plain numbers, references or a state, slices that it writes. Gives its number
+/// and its details.
 macro_rules! call {
     ($function:ident($($read:ident),*; $($number:ident),*; $($written:ident),*; $($detail:ident),*)) => {{
         $(let mut $detail = 0;)*
         // SAFETY: each slice is lent as its own pointer and length: not null, aligned, and nothing else overlaps what is written,
-        // since that is borrowed alone. A reference is to memory of its type. The details are locals. The call keeps no pointer.
+        // since that is borrowed alone; so are the slices and the number of a state. A reference is to memory of its type. The details
+        // are locals. The call keeps no pointer.
         let number = unsafe {
             archive::$function(
                 $($read.as_ptr(), $read.len(),)*
@@ -78,45 +80,24 @@ macro_rules! call {
     }};
 }
 
-/// Opens the lent state under a policy, whatever the buffers held: nothing is known, and every verdict is blank.
-pub fn open(
-    policy: &[u8],
-    numbers: &mut [u16],
-    facts: &mut [u32],
-    valuation: &mut [u8],
-    verdicts: &mut [u8],
-) -> Result<(), Refusal> {
-    answer(call!(zankezurt_open(policy;; numbers, facts, valuation, verdicts; detail))).map(|_| ())
+/// Opens the lent state under a policy, whatever it held: nothing is known, every verdict is blank, and from now on it is this policy's.
+pub fn open(policy: &[u8], state: &mut State<'_>) -> Result<(), Refusal> {
+    answer(call!(zankezurt_open(policy; state;; detail))).map(|_| ())
 }
 
-/// Takes one message, of any bytes, into the lent state; gives how many verdicts stand.
-pub fn receive(
-    policy: &[u8],
-    message: &[u8],
-    numbers: &mut [u16],
-    facts: &mut [u32],
-    valuation: &mut [u8],
-    verdicts: &mut [u8],
-) -> Result<usize, Refusal> {
-    answer(call!(zankezurt_receive(policy, message;; numbers, facts, valuation, verdicts; detail)))
+/// Takes one message, of any bytes, into the lent state, under the policy that it was opened under; gives how many verdicts stand.
+pub fn receive(policy: &[u8], message: &[u8], state: &mut State<'_>) -> Result<usize, Refusal> {
+    answer(call!(zankezurt_receive(policy, message; state;; detail)))
 }
 
 /// Takes the messages of a packet, which stand end to end, until the packet ends or one is refused; leaves the lent state as taking them
 /// one by one would. An empty packet takes none, but policy and state are checked.
-pub fn receive_packet(
-    policy: &[u8],
-    packet: &[u8],
-    numbers: &mut [u16],
-    facts: &mut [u32],
-    valuation: &mut [u8],
-    verdicts: &mut [u8],
-) -> Packet {
-    let (number, taken, place) =
-        call!(zankezurt_receive_packet(policy, packet;; numbers, facts, valuation, verdicts; taken, place));
+pub fn receive_packet(policy: &[u8], packet: &[u8], state: &mut State<'_>) -> Packet {
+    let (number, taken, place) = call!(zankezurt_receive_packet(policy, packet; state;; taken, place));
     Packet { taken, refusal: answer((number, place)).err() }
 }
 
-/// The verdict of a rule at a minute, from the lent verdict sheet.
+/// The verdict of a rule at a minute, from the lent verdict sheet. A sheet doesn't tell the policy that it was worked under.
 pub fn lookup(policy: &[u8], verdicts: &[u8], rule: usize, minute: usize) -> Result<Verdict, Refusal> {
     answer(call!(zankezurt_lookup(policy, verdicts; rule, minute;; detail))).map(Verdict::of_code)
 }

@@ -1,6 +1,6 @@
 //! Safe calls of the proved runtime monitor.
 //!
-//! [`Shift`] opens a policy and owns the four buffers of its state:
+//! [`Shift`] opens a policy and owns the memory of its state:
 //!
 //! ```
 //! # #[cfg(feature = "alloc")]
@@ -36,28 +36,38 @@
 //! ```
 //!
 //! [`open`], [`receive`], [`receive_packet`] and [`lookup`] do the same in memory that the caller lends, with no heap: a crate that
-//! depends on this one with `default-features = false` has them alone. [`Sizes`] gives the buffers' exact lengths:
+//! depends on this one with `default-features = false` has them alone. [`State`] is that memory, and [`Sizes`] gives the buffers' exact
+//! lengths:
 //!
 //! ```
-//! use zankezurt::{lookup, open, receive, Sizes, Verdict};
+//! use zankezurt::{lookup, open, receive, Reason, Sizes, State, Verdict, POLICY_LENGTH};
 //!
 //! const LARGEST: Sizes = Sizes::LARGEST;
 //! let mut numbers = [0; LARGEST.numbers_length()];
 //! let mut facts = [0; LARGEST.facts_length()];
 //! let mut valuation = [0; LARGEST.valuation_length()];
 //! let mut verdicts = [0; LARGEST.verdicts_length()];
+//! let (mut origin, mut extent) = ([0; POLICY_LENGTH], 0);
 //!
 //! let policy = [0x01, 0x01, 0x04, 0x00, 0x03, 0x00, 0x01, 0x01, 0x35, 0x04, 0x01, 0x02, 0x00];
 //! let sizes = Sizes::of(&policy)?;
-//! let numbers = &mut numbers[..sizes.numbers_length()];
-//! let facts = &mut facts[..sizes.facts_length()];
-//! let valuation = &mut valuation[..sizes.valuation_length()];
-//! let verdicts = &mut verdicts[..sizes.verdicts_length()];
+//! let mut state = State {
+//!     numbers: &mut numbers[..sizes.numbers_length()],
+//!     facts: &mut facts[..sizes.facts_length()],
+//!     valuation: &mut valuation[..sizes.valuation_length()],
+//!     verdicts: &mut verdicts[..sizes.verdicts_length()],
+//!     origin: &mut origin,
+//!     extent: &mut extent,
+//! };
 //!
-//! open(&policy, numbers, facts, valuation, verdicts)?;
+//! open(&policy, &mut state)?;
 //! let message = [0x0C, 0x01, 0x00, 0x01, 0x00, 0x00, 0x00, 0x00];
-//! assert_eq!(receive(&policy, &message, numbers, facts, valuation, verdicts)?, 1);
-//! assert_eq!(lookup(&policy, verdicts, 0, 0)?, Verdict::Violated);
+//! assert_eq!(receive(&policy, &message, &mut state)?, 1);
+//! assert_eq!(lookup(&policy, state.verdicts, 0, 0)?, Verdict::Violated);
+//!
+//! // the state is this policy's: under another of the same sizes (in the last minute) nothing is taken into it
+//! let other = [0x01, 0x01, 0x04, 0x00, 0x03, 0x00, 0x01, 0x01, 0x35, 0x04, 0x01, 0x01, 0x00];
+//! assert_eq!(receive(&other, &message, &mut state).unwrap_err().reason, Reason::OtherPolicy);
 //! # Ok::<(), zankezurt::Refusal>(())
 //! ```
 //!
@@ -106,6 +116,7 @@ mod refusal;
 #[cfg(feature = "alloc")]
 mod shift;
 mod sizes;
+mod state;
 mod version;
 
 pub use calls::{encode_message, encode_policy, lookup, open, receive, receive_packet, Packet, Verdict};
@@ -114,4 +125,5 @@ pub use refusal::{Reason, Refusal};
 #[cfg(feature = "alloc")]
 pub use shift::Shift;
 pub use sizes::Sizes;
+pub use state::State;
 pub use version::{version, VERSION};

@@ -29,13 +29,15 @@ pub enum Reason {
     OutOfRange,
     /// The lent buffer is shorter than the text.
     ShortBuffer,
+    /// The lent state was opened under another policy.
+    OtherPolicy,
     /// A number that this version of the bindings has no name for: the archive is of another version.
     Unnamed(u8),
 }
 
 impl Reason {
     /// The reasons that have a name, in the order of their numbers.
-    pub const ALL: [Reason; 11] = [
+    pub const ALL: [Reason; 12] = [
         Reason::TruncatedPolicy,
         Reason::BadHeading,
         Reason::BadSubformula,
@@ -47,6 +49,7 @@ impl Reason {
         Reason::Conflict,
         Reason::OutOfRange,
         Reason::ShortBuffer,
+        Reason::OtherPolicy,
     ];
 
     /// The reason's number, from 1.
@@ -63,6 +66,7 @@ impl Reason {
             Reason::Conflict => 9,
             Reason::OutOfRange => 10,
             Reason::ShortBuffer => 11,
+            Reason::OtherPolicy => 12,
             Reason::Unnamed(number) => number,
         }
     }
@@ -88,6 +92,7 @@ impl fmt::Display for Reason {
             Reason::Conflict => "conflict",
             Reason::OutOfRange => "out of range",
             Reason::ShortBuffer => "short buffer",
+            Reason::OtherPolicy => "other policy",
             Reason::Unnamed(_) => "a reason without a name here",
         })
     }

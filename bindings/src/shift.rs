@@ -1,12 +1,17 @@
 //! A state that owns its memory.
 
 use crate::calls::{lookup, open, receive, receive_packet, Packet, Verdict};
+use crate::fields::POLICY_LENGTH;
 use crate::refusal::Refusal;
 use crate::sizes::Sizes;
+use crate::state::State;
 use alloc::boxed::Box;
 use alloc::vec;
 
-/// A shift under its policy: what is known of it, and its verdicts, in buffers of its own (at most 113 KiB).
+/// A shift under its policy: what is known of it, and its verdicts, in memory of its own (at most 114 KiB).
+///
+/// Its state is lent with its own policy and with no other, so that none of its calls is refused for
+/// [`OtherPolicy`](crate::Reason::OtherPolicy).
 ///
 /// Where several threads bring messages, one lock is enough: the order of messages that agree doesn't matter.
 ///
@@ -40,31 +45,40 @@ pub struct Shift {
     facts: Box<[u32]>,
     valuation: Box<[u8]>,
     verdicts: Box<[u8]>,
+    origin: Box<[u8]>,
+    extent: u16,
 }
 
 impl Shift {
     /// Opens a shift under an encoded policy: nothing is known, and every verdict is blank.
     pub fn open(policy: &[u8]) -> Result<Shift, Refusal> {
         let sizes = Sizes::of(policy)?;
-        let mut numbers = vec![0; sizes.numbers_length()].into_boxed_slice();
-        let mut facts = vec![0; sizes.facts_length()].into_boxed_slice();
-        let mut valuation = vec![0; sizes.valuation_length()].into_boxed_slice();
-        let mut verdicts = vec![0; sizes.verdicts_length()].into_boxed_slice();
-        open(policy, &mut numbers, &mut facts, &mut valuation, &mut verdicts)?;
-        Ok(Shift { policy: policy.into(), sizes, numbers, facts, valuation, verdicts })
+        let mut shift = Shift {
+            policy: policy.into(),
+            sizes,
+            numbers: zeros(sizes.numbers_length()),
+            facts: zeros(sizes.facts_length()),
+            valuation: zeros(sizes.valuation_length()),
+            verdicts: zeros(sizes.verdicts_length()),
+            origin: zeros(POLICY_LENGTH),
+            extent: 0,
+        };
+        let (policy, mut state) = shift.lent();
+        open(policy, &mut state)?;
+        Ok(shift)
     }
 
     /// Takes one message, of any bytes; gives how many verdicts stand.
     pub fn receive(&mut self, message: &[u8]) -> Result<usize, Refusal> {
-        let Shift { policy, numbers, facts, valuation, verdicts, .. } = self;
-        receive(policy, message, numbers, facts, valuation, verdicts)
+        let (policy, mut state) = self.lent();
+        receive(policy, message, &mut state)
     }
 
     /// Takes the messages of a packet, which stand end to end, until the packet ends or one is refused; leaves the shift as taking them
     /// one by one would.
     pub fn receive_packet(&mut self, packet: &[u8]) -> Packet {
-        let Shift { policy, numbers, facts, valuation, verdicts, .. } = self;
-        receive_packet(policy, packet, numbers, facts, valuation, verdicts)
+        let (policy, mut state) = self.lent();
+        receive_packet(policy, packet, &mut state)
     }
 
     /// The verdict of a rule at a minute.
@@ -102,4 +116,15 @@ impl Shift {
     pub fn sizes(&self) -> Sizes {
         self.sizes
     }
+
+    /// The policy and the state, as the calls want them.
+    fn lent(&mut self) -> (&[u8], State<'_>) {
+        let Shift { policy, sizes: _, numbers, facts, valuation, verdicts, origin, extent } = self;
+        (policy, State { numbers, facts, valuation, verdicts, origin, extent })
+    }
+}
+
+/// So many cells, before they are opened.
+fn zeros<T: Clone + Default>(length: usize) -> Box<[T]> {
+    vec![T::default(); length].into_boxed_slice()
 }

@@ -10,7 +10,8 @@ const SHORT_FIELDS: u8 = 0b0000_0111;
 const LONG_FIELDS: u8 = 0b0001_1000;
 const RULE: u8 = 0b0010_0000;
 
-/// The sizes of a policy, which give the exact lengths of the four buffers.
+/// The sizes of a policy, which give the exact lengths of the buffers. (That of a [`State`](crate::State)'s origin is
+/// [`POLICY_LENGTH`](crate::POLICY_LENGTH), under every policy.)
 #[derive(Clone, Copy, Debug, PartialEq, Eq, Hash)]
 pub struct Sizes {
     /// How many propositions (marks).

@@ -1,4 +1,4 @@
-/* Calls from C with empty and NULL bytes, packets, fields to write, and the version; prints the version. */
+/* Calls from C with empty and NULL bytes, packets, states of other policies, fields to write, and the version; prints the version. */
 #include <stdio.h>
 #include <stdlib.h>
 #include <string.h>
@@ -10,7 +10,11 @@ enum { COMPONENTS = 1, MINUTES = 4, SUBFORMULAS = 3, RULES = 1 };
 /* Mark 0 at some time in the last 2 minutes. */
 static const uint8_t policy[] = {0x01, 0x01, 0x04, 0x00, 0x03, 0x00, 0x01, 0x01, 0x35, 0x04, 0x01, 0x02, 0x00};
 
-static ZANKEZURT_STATE(COMPONENTS, MINUTES, SUBFORMULAS, RULES) state;
+/* Others of the same sizes: mark 0 in the last minute; and a shorter one, always true. */
+static const uint8_t other[] = {0x01, 0x01, 0x04, 0x00, 0x03, 0x00, 0x01, 0x01, 0x35, 0x04, 0x01, 0x01, 0x00};
+static const uint8_t shorter[] = {0x01, 0x01, 0x04, 0x00, 0x03, 0x00, 0x01, 0x01, 0x20};
+
+static ZANKEZURT_STATE(COMPONENTS, MINUTES, SUBFORMULAS, RULES) state, kept;
 static size_t detail, taken, place;
 
 static struct zankezurt_line fields[64];
@@ -37,6 +41,38 @@ static uint8_t receive(const uint8_t *bytes, size_t length)
 static uint8_t receive_packet(const uint8_t *bytes, size_t length)
 {
     return zankezurt_receive_packet(policy, sizeof policy, bytes, length, ZANKEZURT_LENT(state), &taken, &place);
+}
+
+/* An observation at minute 0, sequence number 1, and mark 0 is false: alone under a policy, and after an alive in a packet. */
+static const uint8_t observations[] = {0x10, 0x0C, 0x01, 0x00, 0x01, 0x00, 0x00, 0x00, 0x00};
+
+static uint8_t receive_under(const uint8_t *bytes, size_t length)
+{
+    return zankezurt_receive(bytes, length, observations + 1, sizeof observations - 1, ZANKEZURT_LENT(state), &detail);
+}
+
+static uint8_t receive_packet_under(const uint8_t *bytes, size_t length)
+{
+    return zankezurt_receive_packet(bytes, length, observations, sizeof observations, ZANKEZURT_LENT(state), &taken, &place);
+}
+
+/* The three calls under a policy, origin a byte shorter than it has to be. */
+static uint8_t open_cut(const uint8_t *bytes, size_t length, ZANKEZURT_STATE_PARAMETERS)
+{
+    origin_length--;
+    return zankezurt_open(bytes, length, ZANKEZURT_STATE_ARGUMENTS, &detail);
+}
+
+static uint8_t receive_cut(const uint8_t *bytes, size_t length, ZANKEZURT_STATE_PARAMETERS)
+{
+    origin_length--;
+    return zankezurt_receive(bytes, length, NULL, 0, ZANKEZURT_STATE_ARGUMENTS, &detail);
+}
+
+static uint8_t receive_packet_cut(const uint8_t *bytes, size_t length, ZANKEZURT_STATE_PARAMETERS)
+{
+    origin_length--;
+    return zankezurt_receive_packet(bytes, length, NULL, 0, ZANKEZURT_STATE_ARGUMENTS, &taken, &place);
 }
 
 static uint8_t look_under(const uint8_t *bytes, size_t length)
@@ -125,6 +161,86 @@ static void write_messages(void)
     }
 }
 
+/* Keeps the state as it is, or expects it as it was kept. */
+static void keep(void) { memcpy(&kept, &state, sizeof state); }
+static void expect_kept(const char *what) { expect(what, memcmp(&kept, &state, sizeof state) == 0, 1); }
+
+/* The state was opened under these bytes. */
+static void expect_origin(const char *what, const uint8_t *bytes, size_t length)
+{
+    uint8_t expected[ZANKEZURT_POLICY_LENGTH] = {0};
+    memcpy(expected, bytes, length);
+    expect(what, memcmp(state.origin, expected, sizeof expected) == 0, 1);
+    expect("its extent", state.extent, length);
+}
+
+/* Take and packet under a policy are refused, and the state stays as it is. */
+static void expect_refused(const char *what, const uint8_t *bytes, size_t length, uint8_t refusal)
+{
+    keep();
+    detail = taken = place = 1;
+    expect(what, receive_under(bytes, length), refusal);
+    expect("its place", detail, 0);
+    expect(what, receive_packet_under(bytes, length), refusal);
+    expect("how many were taken", taken, 0);
+    expect("its place", place, 0);
+    expect_kept("a state that is refused");
+}
+
+static void swap_policies(void)
+{
+    expect("one policy", open_under(policy, sizeof policy), ZANKEZURT_ACCEPTED);
+    expect_origin("its state's origin", policy, sizeof policy);
+    expect("a take under it", receive_under(policy, sizeof policy), ZANKEZURT_ACCEPTED);
+    expect("its verdicts", detail, 1);
+    expect_origin("the origin after it", policy, sizeof policy);
+
+    expect_refused("another policy", other, sizeof other, ZANKEZURT_OTHER_POLICY);
+    expect_refused("a shorter one", shorter, sizeof shorter, ZANKEZURT_OTHER_POLICY);
+    expect_refused("one that is cut", policy, 0, ZANKEZURT_TRUNCATED_POLICY);
+    expect("an empty packet", zankezurt_receive_packet(other, sizeof other, NULL, 0, ZANKEZURT_LENT(state), &taken, &place),
+           ZANKEZURT_OTHER_POLICY);
+    expect("a look, which is lent no origin", look_under(other, sizeof other), ZANKEZURT_ACCEPTED);
+    state.numbers[0] = 1;
+    expect_refused("knowledge that is not sound", policy, sizeof policy, ZANKEZURT_CORRUPT_KNOWLEDGE);
+    expect_refused("and under another policy", other, sizeof other, ZANKEZURT_OTHER_POLICY);
+    expect("another policy, opened", open_under(other, sizeof other), ZANKEZURT_ACCEPTED);
+    expect_origin("its state's origin", other, sizeof other);
+    expect_refused("the first policy now", policy, sizeof policy, ZANKEZURT_OTHER_POLICY);
+    expect("a packet under the other", receive_packet_under(other, sizeof other), ZANKEZURT_ACCEPTED);
+    expect("how many were taken", taken, 2);
+    keep();
+    expect("a policy that is cut, opened", open_under(policy, 12), ZANKEZURT_TRUNCATED_POLICY);
+    expect_kept("the state under the other");
+    expect("a shorter policy, opened", open_under(shorter, sizeof shorter), ZANKEZURT_ACCEPTED);
+    expect_origin("its state's origin", shorter, sizeof shorter);
+}
+
+static void damage_origins(void)
+{
+    static const uint16_t extents[] = {0, 1, 12, 14, 13 + 256, 517, 65535};
+
+    expect("a policy", open_under(policy, sizeof policy), ZANKEZURT_ACCEPTED);
+    for (size_t at = 0; at < sizeof state.origin; at++) {
+        state.origin[at] ^= 0x80;
+        expect_refused("a damaged byte", policy, sizeof policy, ZANKEZURT_OTHER_POLICY);
+        state.origin[at] ^= 0x80;
+    }
+    for (size_t i = 0; i < sizeof extents / sizeof *extents; i++) {
+        state.extent = extents[i];
+        expect_refused("a damaged extent", policy, sizeof policy, ZANKEZURT_OTHER_POLICY);
+    }
+    state.extent = sizeof policy;
+
+    keep();
+    expect("opening with 516 bytes", open_cut(other, sizeof other, ZANKEZURT_LENT(state)), ZANKEZURT_BUFFER_SIZE);
+    expect("a take with them", receive_cut(policy, sizeof policy, ZANKEZURT_LENT(state)), ZANKEZURT_BUFFER_SIZE);
+    expect("a packet with them", receive_packet_cut(policy, sizeof policy, ZANKEZURT_LENT(state)), ZANKEZURT_BUFFER_SIZE);
+    expect("a take of another policy with them", receive_cut(other, sizeof other, ZANKEZURT_LENT(state)), ZANKEZURT_BUFFER_SIZE);
+    expect_kept("the state");
+    expect("a take into the state", receive_under(policy, sizeof policy), ZANKEZURT_ACCEPTED);
+}
+
 int main(void)
 {
     static const uint8_t alive[] = {0x10}, packet[] = {0x10, 0x10, 0x00, 0x10};
@@ -153,6 +269,8 @@ int main(void)
     expect("how many were taken before it", taken, 2);
     expect("its place", place, 2);
 
+    swap_policies();
+    damage_origins();
     write_policies();
     write_messages();
 

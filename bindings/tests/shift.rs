@@ -1,7 +1,9 @@
 //! A shift that owns its memory: sizes, takes and looks are those of the calls over lent memory.
 #![cfg(feature = "alloc")]
 
-use zankezurt::{lookup, open, receive, receive_packet, Packet, Reason, Refusal, Shift, Sizes, Verdict};
+use zankezurt::{
+    lookup, open, receive, receive_packet, Packet, Reason, Refusal, Shift, Sizes, State, Verdict, POLICY_LENGTH,
+};
 
 /// Rule 0: mark 0 at some time in the last 2 minutes. Rule 1: mark 1. Rule 2: mark 0 within the next minute. The lines are of many
 /// lengths, from 1 to 8 bytes.
@@ -23,6 +25,34 @@ const MESSAGES: [&[u8]; 4] = [
     &[0x06, 0x03, 0x00, 0x03, 0x00],
     &[0x00],
 ];
+
+/// Memory to lend, filled with anything.
+struct Memory {
+    numbers: Vec<u16>,
+    facts: Vec<u32>,
+    valuation: Vec<u8>,
+    verdicts: Vec<u8>,
+    origin: Vec<u8>,
+    extent: u16,
+}
+
+impl Memory {
+    fn new(sizes: Sizes) -> Memory {
+        Memory {
+            numbers: vec![7; sizes.numbers_length()],
+            facts: vec![7; sizes.facts_length()],
+            valuation: vec![7; sizes.valuation_length()],
+            verdicts: vec![7; sizes.verdicts_length()],
+            origin: vec![7; POLICY_LENGTH],
+            extent: 7,
+        }
+    }
+
+    fn lent(&mut self) -> State<'_> {
+        let Memory { numbers, facts, valuation, verdicts, origin, extent } = self;
+        State { numbers, facts, valuation, verdicts, origin, extent }
+    }
+}
 
 #[test]
 fn sizes_of_a_policy() {
@@ -50,26 +80,43 @@ fn a_heading_out_of_range_is_refused() {
 #[test]
 fn takes_and_looks_are_those_of_lent_memory() {
     let sizes = Sizes::of(&POLICY).unwrap();
-    let mut numbers = vec![7; sizes.numbers_length()];
-    let mut facts = vec![7; sizes.facts_length()];
-    let mut valuation = vec![7; sizes.valuation_length()];
-    let mut verdicts = vec![7; sizes.verdicts_length()];
-    open(&POLICY, &mut numbers, &mut facts, &mut valuation, &mut verdicts).unwrap();
+    let mut memory = Memory::new(sizes);
+    let mut state = memory.lent();
+    open(&POLICY, &mut state).unwrap();
     let mut shift = Shift::open(&POLICY).unwrap();
 
     for message in MESSAGES {
-        let lent = receive(&POLICY, message, &mut numbers, &mut facts, &mut valuation, &mut verdicts);
+        let lent = receive(&POLICY, message, &mut state);
         let standing = shift.receive(message);
         assert_eq!(standing, lent);
-        assert_eq!(shift.verdicts().collect::<Vec<_>>(), looked_up(&verdicts, sizes));
+        assert_eq!(shift.verdicts().collect::<Vec<_>>(), looked_up(state.verdicts, sizes));
         assert!(standing.is_err() || standing == Ok(shift.verdicts().count()));
-        assert_eq!(shift.lookup(1, 2), lookup(&POLICY, &verdicts, 1, 2));
+        assert_eq!(shift.lookup(1, 2), lookup(&POLICY, state.verdicts, 1, 2));
     }
     assert!(shift.verdicts().count() > 0);
     let packet = MESSAGES.concat();
-    let lent = receive_packet(&POLICY, &packet, &mut numbers, &mut facts, &mut valuation, &mut verdicts);
+    let lent = receive_packet(&POLICY, &packet, &mut state);
     assert_eq!(shift.receive_packet(&packet), lent);
     assert_eq!(shift.lookup(3, 0).unwrap_err().reason, Reason::OutOfRange);
+}
+
+/// A state is its policy's until it is opened under another one.
+#[test]
+fn a_state_is_refused_under_another_policy() {
+    let mut other = POLICY;
+    other[11] = 0x03; // of line 2: up to 3 minutes
+    let mut memory = Memory::new(Sizes::of(&POLICY).unwrap());
+    let refusal = Refusal { reason: Reason::OtherPolicy, place: 0 };
+    for [own, another] in [[&POLICY, &other], [&other, &POLICY]] {
+        let mut state = memory.lent();
+        assert_eq!(receive(own, MESSAGES[0], &mut state), Err(refusal));
+        open(own, &mut state).unwrap();
+        assert_eq!((&state.origin[..own.len()], usize::from(*state.extent)), (&own[..], own.len()));
+        assert_eq!(receive(another, MESSAGES[0], &mut state), Err(refusal));
+        let packet = receive_packet(another, &MESSAGES.concat(), &mut state);
+        assert_eq!(packet, Packet { taken: 0, refusal: Some(refusal) });
+        assert!(receive(own, MESSAGES[0], &mut state).is_ok());
+    }
 }
 
 /// The first three messages are taken, and the last is refused.

@@ -3,27 +3,30 @@
 use oracle::reading::Verdict;
 use oracle::write::{self, MessageFields, PolicyFields};
 use oracle::{Answer, Buffers, Look, PacketAnswer, Refusal};
-use zankezurt::{Line, Message};
+use zankezurt::{Line, Message, State};
+
+/// The buffers as they are lent to the archive.
+pub fn lent(buffers: &mut Buffers) -> State<'_> {
+    let Buffers { numbers, facts, valuation, verdicts, origin, extent } = buffers;
+    State { numbers, facts, valuation, verdicts, origin, extent }
+}
 
 pub fn open(policy: &[u8], buffers: &mut Buffers) -> Answer {
-    let Buffers { numbers, facts, valuation, verdicts } = buffers;
-    match zankezurt::open(policy, numbers, facts, valuation, verdicts) {
+    match zankezurt::open(policy, &mut lent(buffers)) {
         Ok(()) => Answer::Done,
         Err(refusal) => Answer::Refused(refused(refusal)),
     }
 }
 
 pub fn receive(policy: &[u8], message: &[u8], buffers: &mut Buffers) -> Answer {
-    let Buffers { numbers, facts, valuation, verdicts } = buffers;
-    match zankezurt::receive(policy, message, numbers, facts, valuation, verdicts) {
+    match zankezurt::receive(policy, message, &mut lent(buffers)) {
         Ok(standing) => Answer::Received(standing),
         Err(refusal) => Answer::Refused(refused(refusal)),
     }
 }
 
 pub fn receive_packet(policy: &[u8], packet: &[u8], buffers: &mut Buffers) -> PacketAnswer {
-    let Buffers { numbers, facts, valuation, verdicts } = buffers;
-    let answer = zankezurt::receive_packet(policy, packet, numbers, facts, valuation, verdicts);
+    let answer = zankezurt::receive_packet(policy, packet, &mut lent(buffers));
     PacketAnswer { taken: answer.taken, refusal: answer.refusal.map(refused) }
 }
 

@@ -67,6 +67,8 @@ pub fn filled_buffers(random: &mut Random, policy: &Policy) -> Buffers {
     let mut buffers = Buffers::sized(policy);
     buffers.numbers.fill_with(|| random.word() as u16);
     buffers.facts.fill_with(|| random.word() as u32);
+    buffers.origin.fill_with(|| random.word() as u8);
+    buffers.extent = random.word() as u16;
     fill_sheets(random, &mut buffers);
     buffers
 }

@@ -1,5 +1,5 @@
 //! Calls the archive and the oracle with the same bytes. They must agree in all that they give: answer, number, place and
-//! every cell of the four buffers, or of the one that a policy or a message is written into.
+//! every cell of the state, or of the buffer that a policy or a message is written into.
 //!
 //! A difference panics with the whole input, so that it can be kept as a test. `ZANKEZURT_ROUNDS`, a number, makes every
 //! random test that many times longer, on inputs that a shorter run does not see.
@@ -107,7 +107,7 @@ fn both<A: PartialEq + Debug>(
     answer
 }
 
-/// The first cell of each buffer that differs.
+/// The first cell of each buffer that differs, and whether the extents do.
 fn difference(archive: &Buffers, oracle: &Buffers) -> String {
     fn first<T: PartialEq>(name: &str, one: &[T], other: &[T]) -> String {
         let cell = (0..one.len()).find(|cell| one[*cell] != other[*cell]);
@@ -118,6 +118,8 @@ fn difference(archive: &Buffers, oracle: &Buffers) -> String {
         first("facts", &archive.facts, &oracle.facts),
         first("valuation", &archive.valuation, &oracle.valuation),
         first("verdicts", &archive.verdicts, &oracle.verdicts),
+        first("origins", &archive.origin, &oracle.origin),
+        first("extents", &[archive.extent], &[oracle.extent]),
     ]
     .concat()
 }

@@ -6,9 +6,10 @@ use conformance::rounds::{self, Seen};
 use conformance::{lookup, open, receive, receive_packet};
 use oracle::generate::{self, Random};
 use oracle::policy::{self, Policy};
-use oracle::refusal::BUFFER_SIZE;
+use oracle::refusal::{BUFFER_SIZE, OTHER_POLICY};
 use oracle::trace::Trace;
 use oracle::{knowledge, Answer, Buffers, Look, PacketAnswer, Refusal};
+use zankezurt::State;
 
 /// No policy is longer than 517 bytes; offered are these.
 const LONGEST: usize = 600;
@@ -32,11 +33,11 @@ fn anything_may_be_damaged() {
             case(random, &policy, seen);
         }
     });
-    for number in 1..=9 {
+    for number in (1..=9).chain([12]) {
         seen.at_least(500, &format!("receive refused {number}"));
         seen.at_least(300, &format!("packet refused {number}"));
     }
-    for number in 1..=6 {
+    for number in (1..=6).chain([12]) {
         seen.at_least(100, &format!("empty packet refused {number}"));
     }
     for what in ["empty packet whole", "packet whole", "packet took none", "packet took one", "packet took many"] {
@@ -47,10 +48,12 @@ fn anything_may_be_damaged() {
         seen.at_least(500, &format!("lookup refused {number}"));
     }
     seen.at_least(500, "lookup refused 10");
-    for what in ["open done", "receive accepted", "damaged and sound", "damaged and accepted", "other policy accepted"]
+    for what in
+        ["open done", "receive accepted", "damaged and sound", "damaged and accepted", "other origin and unsound"]
     {
         seen.at_least(300, what);
     }
+    seen.at_least(100, "other policy accepted");
     seen.at_least(50, "largest");
     seen.at_least(5, "largest accepted");
 }
@@ -68,7 +71,7 @@ fn case(random: &mut Random, original: &Policy, seen: &mut Seen) {
     if damaged {
         damage_record(random, policy, &mut buffers);
     }
-    let sound = damaged && knowledge::sound(policy, &buffers);
+    let sound = knowledge::sound(policy, &buffers);
     if random.once_in(8) {
         generate::resize_buffers(random, &mut buffers);
     }
@@ -82,7 +85,9 @@ fn case(random: &mut Random, original: &Policy, seen: &mut Seen) {
     let answer = receive(&bytes, &message, &mut buffers);
     seen.answer("receive", answer);
     let accepted = matches!(answer, Answer::Received(_));
-    seen.add("damaged and sound", usize::from(sound));
+    let other_origin = matches!(answer, Answer::Refused(refusal) if refusal.number == OTHER_POLICY);
+    seen.add("damaged and sound", usize::from(damaged && sound));
+    seen.add("other origin and unsound", usize::from(other_origin && !sound));
     seen.add("damaged and accepted", usize::from(damaged && accepted));
     seen.add("other policy accepted", usize::from(accepted && read.as_ref() != Ok(original)));
     let largest = inputs::is_largest(policy);
@@ -124,15 +129,21 @@ fn damaged_packet(random: &mut Random, policy: &Policy, trace: &Trace) -> Vec<u8
     messages.iter().flat_map(|message| damaged_message(random, policy, &generate::encode_message(message))).collect()
 }
 
-/// A few cells with values near the right ones, or anything in some cells, or anything everywhere.
+/// A few cells with values near the right ones, or anything in some cells, or anything everywhere, but for the policy
+/// that the record was opened under, or with it.
 fn damage_record(random: &mut Random, policy: &Policy, buffers: &mut Buffers) {
-    match random.below(8) {
-        0 => *buffers = inputs::filled_buffers(random, policy),
-        1 => {
+    match random.below(10) {
+        0 => {
+            let Buffers { origin, extent, .. } = buffers.clone();
+            *buffers = Buffers { origin, extent, ..inputs::filled_buffers(random, policy) };
+        }
+        1 => *buffers = inputs::filled_buffers(random, policy),
+        2 => generate::damage_origin(random, policy, buffers),
+        3 => {
             let cell = random.below(buffers.numbers.len());
             buffers.numbers[cell] = random.word() as u16;
         }
-        2 => {
+        4 => {
             let cell = random.below(buffers.facts.len());
             buffers.facts[cell] = random.word() as u32;
         }
@@ -143,11 +154,12 @@ fn damage_record(random: &mut Random, policy: &Policy, buffers: &mut Buffers) {
 /// A buffer's length, and the buffer made another length.
 type Resizing = (fn(&Buffers) -> usize, fn(&mut Buffers, usize));
 
-const RESIZINGS: [Resizing; 4] = [
+const RESIZINGS: [Resizing; 5] = [
     (|buffers| buffers.numbers.len(), |buffers, length| buffers.numbers.resize(length, 0)),
     (|buffers| buffers.facts.len(), |buffers, length| buffers.facts.resize(length, 0)),
     (|buffers| buffers.valuation.len(), |buffers, length| buffers.valuation.resize(length, 0)),
     (|buffers| buffers.verdicts.len(), |buffers, length| buffers.verdicts.resize(length, 0)),
+    (|buffers| buffers.origin.len(), |buffers, length| buffers.origin.resize(length, 0)),
 ];
 
 /// Each buffer empty, of one cell, short or long by one, of twice its size, and huge.
@@ -262,6 +274,46 @@ impl<T: Copy + PartialEq> Lent<T> {
     }
 }
 
+/// The cells of a state, each buffer's and the extent between others.
+struct LentState {
+    numbers: Lent<u16>,
+    facts: Lent<u32>,
+    valuation: Lent<u8>,
+    verdicts: Lent<u8>,
+    origin: Lent<u8>,
+    extent: Lent<u16>,
+}
+
+impl LentState {
+    fn new(buffers: Buffers) -> LentState {
+        LentState {
+            numbers: Lent::new(&buffers.numbers, 0x5A5A),
+            facts: Lent::new(&buffers.facts, 0x5A5A_5A5A),
+            valuation: Lent::new(&buffers.valuation, 0x5A),
+            verdicts: Lent::new(&buffers.verdicts, 0x5A),
+            origin: Lent::new(&buffers.origin, 0x5A),
+            extent: Lent::new(&[buffers.extent], 0x5A5A),
+        }
+    }
+
+    fn state(&mut self) -> State<'_> {
+        State {
+            numbers: self.numbers.part(),
+            facts: self.facts.part(),
+            valuation: self.valuation.part(),
+            verdicts: self.verdicts.part(),
+            origin: self.origin.part(),
+            extent: &mut self.extent.part()[0],
+        }
+    }
+
+    fn kept_beside(&self) -> bool {
+        let knowledge = self.numbers.kept_beside() && self.facts.kept_beside();
+        let sheets = self.valuation.kept_beside() && self.verdicts.kept_beside();
+        knowledge && sheets && self.origin.kept_beside() && self.extent.kept_beside()
+    }
+}
+
 /// The buffers are parts of longer ones, as C lends them.
 #[test]
 fn nothing_beside_the_lent_cells_is_written() {
@@ -269,21 +321,15 @@ fn nothing_beside_the_lent_cells_is_written() {
         let policy = inputs::policy(random, Size::ALL[number % Size::ALL.len()]);
         let bytes = generate::encode_policy(&policy);
         let trace = inputs::trace(random, &policy, 8);
-        let Buffers { numbers, facts, valuation, verdicts } = inputs::filled_buffers(random, &policy);
-        let (mut numbers, mut facts) = (Lent::new(&numbers, 0x5A5A), Lent::new(&facts, 0x5A5A_5A5A));
-        let (mut valuation, mut verdicts) = (Lent::new(&valuation, 0x5A), Lent::new(&verdicts, 0x5A));
-        let opened = zankezurt::open(&bytes, numbers.part(), facts.part(), valuation.part(), verdicts.part());
-        assert_eq!(opened, Ok(()));
+        let mut lent = LentState::new(inputs::filled_buffers(random, &policy));
+        assert_eq!(zankezurt::open(&bytes, &mut lent.state()), Ok(()));
         for offers in generate::offers(random, &policy, &trace, 60).chunks(3) {
-            let parts = (numbers.part(), facts.part(), valuation.part(), verdicts.part());
-            let taken = zankezurt::receive(&bytes, &offers[0], parts.0, parts.1, parts.2, parts.3);
+            let taken = zankezurt::receive(&bytes, &offers[0], &mut lent.state());
             seen.one(if taken.is_ok() { "accepted" } else { "refused" });
-            let parts = (numbers.part(), facts.part(), valuation.part(), verdicts.part());
-            let packet = zankezurt::receive_packet(&bytes, &offers.concat(), parts.0, parts.1, parts.2, parts.3);
+            let packet = zankezurt::receive_packet(&bytes, &offers.concat(), &mut lent.state());
             seen.add("taken in packets", packet.taken);
             seen.add("packets refused", usize::from(packet.refusal.is_some()));
-            let sheets = valuation.kept_beside() && verdicts.kept_beside();
-            assert!(numbers.kept_beside() && facts.kept_beside() && sheets, "policy {bytes:?}\nmessages {offers:?}");
+            assert!(lent.kept_beside(), "policy {bytes:?}\nmessages {offers:?}");
         }
     });
     seen.at_least(1_000, "accepted");

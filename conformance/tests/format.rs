@@ -69,6 +69,8 @@ fn counted(column: usize) -> Buffers {
         facts: vec![0; cells(1)],
         valuation: vec![0; cells(2)],
         verdicts: vec![0; cells(3)],
+        origin: vec![0; cells(4)],
+        extent: 0,
     }
 }
 

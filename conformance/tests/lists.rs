@@ -76,6 +76,7 @@ fn the_largest_policy_with_many_observations() {
             learnt.learn(&policy, message);
         }
         assert!(buffers.numbers == learnt.numbers && buffers.facts == learnt.facts, "not learnt alike under {bytes:?}");
+        assert!(buffers.origin == learnt.origin && buffers.extent == learnt.extent, "another policy than {bytes:?}");
         seen.answer("receive", receive(&bytes, &last, &mut buffers));
         seen.add("taken before", messages.len());
         seen.verdicts(&buffers.verdicts);

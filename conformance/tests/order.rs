@@ -5,6 +5,7 @@ use conformance::archive;
 use conformance::inputs::{self, Size};
 use conformance::rounds::{self, Seen};
 use oracle::generate::{self, Random};
+use oracle::knowledge::origin_of;
 use oracle::message;
 use oracle::policy::Policy;
 use oracle::reading::{standing, two_valued_verdicts};
@@ -98,11 +99,12 @@ fn ill_formed(random: &mut Random, policy: &Policy, messages: &[Vec<u8>]) -> Off
 }
 
 /// The buffers after the list, from an opening of buffers that hold anything. What stands after any beginning of the list
-/// must stand at its end and be the verdict in the trace.
+/// must stand at its end and be the verdict in the trace; and the state is still of the policy.
 fn run(random: &mut Random, policy: &Policy, list: &[Offer], verdicts: &[u8], seen: &mut Seen) -> Buffers {
     let bytes = generate::encode_policy(policy);
     let mut buffers = inputs::filled_buffers(random, policy);
     assert_eq!(archive::open(&bytes, &mut buffers), Answer::Done);
+    let (origin, extent) = origin_of(&bytes);
     let mut sheets = vec![buffers.verdicts.clone()];
     for offer in list {
         let answer = take(&bytes, offer, &mut buffers);
@@ -113,6 +115,7 @@ fn run(random: &mut Random, policy: &Policy, list: &[Offer], verdicts: &[u8], se
         assert!(stands(sheet, &buffers.verdicts), "a verdict changed\npolicy {bytes:?}\n{:?}", all_bytes(list));
     }
     assert!(stands(&buffers.verdicts, verdicts), "not the trace's verdict\npolicy {bytes:?}\n{:?}", all_bytes(list));
+    assert!((&buffers.origin, buffers.extent) == (&origin, extent), "not the policy {bytes:?}\n{:?}", all_bytes(list));
     buffers
 }
 

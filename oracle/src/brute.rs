@@ -9,7 +9,7 @@ use crate::message;
 use crate::monitor::{open, receive, Answer};
 use crate::policy::{Formula, Policy, Temporal};
 use crate::reading::{standing, two_valued_verdicts};
-use crate::refusal::{Refusal, CONFLICT, CORRUPT_KNOWLEDGE};
+use crate::refusal::{Refusal, CONFLICT, CORRUPT_KNOWLEDGE, OTHER_POLICY};
 use crate::trace::Trace;
 
 /// A tiny policy with every trace that ends by a minute at, or a little past, its last.
@@ -94,9 +94,9 @@ impl Bench {
         }
     }
 
-    /// Offers a message to any knowledge, sound or not. Without value bits or propositions that no fact can have, it is
-    /// sound exactly if some trace agrees with it and every first number is known. What sound knowledge tells of each
-    /// minute is what those traces tell.
+    /// Offers a message to any knowledge, sound or not, and opened under the policy or not. Without value bits or
+    /// propositions that no fact can have, it is sound exactly if some trace agrees with it and every first number is
+    /// known. What sound knowledge tells of each minute is what those traces tell.
     pub fn run_from(&self, offer: &[u8], mut buffers: Buffers) {
         let before = buffers.clone();
         let agreeing = |trace: &usize| self.traces[*trace].agrees(&self.policy, &buffers);
@@ -105,10 +105,14 @@ impl Bench {
         assert_eq!(sound(&self.policy, &buffers), expected);
         if expected {
             self.check_points(&left, &buffers);
+        }
+        let own = opened_under(&self.bytes, &buffers);
+        if own && expected {
             self.step(offer, left, &mut buffers);
         } else {
-            let spoiled = Answer::Refused(Refusal { number: CORRUPT_KNOWLEDGE, place: 0 });
-            assert_eq!((receive(&self.bytes, offer, &mut buffers), buffers), (spoiled, before));
+            let number = if own { CORRUPT_KNOWLEDGE } else { OTHER_POLICY };
+            let refused = Answer::Refused(Refusal { number, place: 0 });
+            assert_eq!((receive(&self.bytes, offer, &mut buffers), buffers), (refused, before));
         }
     }
 
@@ -123,6 +127,12 @@ impl Bench {
 /// Whether every verdict that stands in the first is the same in the second.
 fn kept_up(earlier: &[u8], later: &[u8]) -> bool {
     earlier.iter().zip(later).all(|(earlier, later)| *earlier == 0 || earlier == later)
+}
+
+/// Whether the policy's bytes, then zeros, and its length stand in the buffers.
+fn opened_under(policy: &[u8], buffers: &Buffers) -> bool {
+    let (bytes, zeros) = buffers.origin.split_at(policy.len());
+    usize::from(buffers.extent) == policy.len() && bytes == policy && zeros.iter().all(|byte| *byte == 0)
 }
 
 fn first_numbers_known(policy: &Policy, buffers: &Buffers) -> bool {

@@ -1,6 +1,6 @@
-//! Random policies, traces, messages, fields, damage and program inputs, the same for the same seed.
+//! Random policies, traces, messages, fields, damage, swapped policies and program inputs, the same for the same seed.
 
-use crate::knowledge::{Buffers, NOT_KNOWN};
+use crate::knowledge::{origin_of, Buffers, NOT_KNOWN};
 use crate::message::{Event, Message, ALIVE_BIT};
 use crate::policy::*;
 use crate::trace::Trace;
@@ -484,10 +484,11 @@ pub fn stray_message_fields(random: &mut Random, policy: &Policy) -> MessageFiel
 /// Changes a few cells, of the knowledge and of the sheets.
 pub fn damage_buffers(random: &mut Random, policy: &Policy, buffers: &mut Buffers) {
     for _ in 0..random.between(1, 3) {
-        match random.below(6) {
-            0..=2 => damage_number(random, policy, buffers),
-            3 | 4 => damage_fact(random, policy, buffers),
-            _ => damage_sheets(random, buffers),
+        match random.below(8) {
+            0..=3 => damage_number(random, policy, buffers),
+            4 | 5 => damage_fact(random, policy, buffers),
+            6 => damage_sheets(random, buffers),
+            _ => damage_origin(random, policy, buffers),
         }
     }
 }
@@ -530,9 +531,32 @@ fn damage_sheets(random: &mut Random, buffers: &mut Buffers) {
     buffers.verdicts[cell] = random.word() as u8;
 }
 
-/// Knowledge that, though sound, no messages may have made: from a trace's numbers and facts, some are kept. The sheets
-/// are left as they are.
+/// Changes a byte of the policy or one of the zeros after it, or the extent, or makes both another policy's, or those of
+/// the policy cut by some bytes.
+pub fn damage_origin(random: &mut Random, policy: &Policy, buffers: &mut Buffers) {
+    let bytes = encode_policy(policy);
+    let length = bytes.len();
+    match random.below(6) {
+        0 | 1 => buffers.origin[random.below(length)] ^= 1 << random.below(8),
+        2 => {
+            let place = random.between(length, MOST_BYTES - 1);
+            buffers.origin[random.pick(&[length, place, MOST_BYTES - 1])] = random.between(1, 255) as u8;
+        }
+        3 => {
+            let flipped = length ^ 1 << random.below(16);
+            let any = random.word() as usize;
+            let near = [0, length - 1, length + 1, flipped, MOST_BYTES, MOST_BYTES + 1, 65535, any];
+            buffers.extent = random.pick(&near) as u16;
+        }
+        4 => (buffers.origin, buffers.extent) = origin_of(&bytes[..random.below(length)]),
+        _ => (buffers.origin, buffers.extent) = origin_of(&encode_policy(&other_policy(random, policy))),
+    }
+}
+
+/// Knowledge that, though sound, no messages may have made: from a trace's numbers and facts, some are kept. It is
+/// opened under the policy. The sheets are left as they are.
 pub fn sound_knowledge(random: &mut Random, policy: &Policy, trace: &Trace, buffers: &mut Buffers) {
+    (buffers.origin, buffers.extent) = origin_of(&encode_policy(policy));
     buffers.forget(policy);
     let seldom = random.between(1, 4);
     for component in 0..policy.components {
@@ -558,12 +582,111 @@ pub fn resize_buffers(random: &mut Random, buffers: &mut Buffers) {
         let length = random.pick(&[shorter, buffer.len() - 1, longer, 0]);
         buffer.resize(length, T::default());
     }
-    match random.below(4) {
+    match random.below(5) {
         0 => resize(random, &mut buffers.numbers),
         1 => resize(random, &mut buffers.facts),
         2 => resize(random, &mut buffers.valuation),
-        _ => resize(random, &mut buffers.verdicts),
+        3 => resize(random, &mut buffers.verdicts),
+        _ => resize(random, &mut buffers.origin),
     }
+}
+
+/// A policy to swap this one for: one number changed or other subformulas, in buffers of the same sizes; or any policy
+/// of at most one more of everything, which now and then is the same.
+pub fn other_policy(random: &mut Random, policy: &Policy) -> Policy {
+    let sizes = Limits {
+        propositions: random.between(1, MOST_PROPOSITIONS),
+        components: policy.components,
+        minutes: policy.minutes,
+        subformulas: policy.subformulas.len(),
+        bound: HIGHEST_BOUND.min(policy.minutes + 2),
+    };
+    let larger = Limits {
+        components: MOST_COMPONENTS.min(sizes.components + 1),
+        minutes: MOST_MINUTES.min(sizes.minutes + 1),
+        subformulas: MOST_SUBFORMULAS.min(sizes.subformulas + 1),
+        ..sizes
+    };
+    match random.below(4) {
+        0 => self::policy(random, &larger),
+        1 => policy_of(random, &sizes, policy.rules().len()),
+        _ => near_policy(random, policy),
+    }
+}
+
+/// Another policy with buffers of the same sizes, mostly with one number changed.
+fn near_policy(random: &mut Random, policy: &Policy) -> Policy {
+    loop {
+        match read(&stray_policy(random, policy)) {
+            Ok(near) if near != *policy && same_sizes(&near, policy) => return near,
+            _ => (),
+        }
+    }
+}
+
+/// Whether the buffers of the two policies have the same sizes.
+fn same_sizes(one: &Policy, other: &Policy) -> bool {
+    Buffers::sized(one).fit(other)
+}
+
+/// The policy, `count` others to swap it for, and one or two that mostly are no policies: the bytes of one of these cut,
+/// followed by zeros or damaged, or stray ones.
+pub fn swaps(random: &mut Random, policy: &Policy, count: usize) -> Vec<Vec<u8>> {
+    let mut swaps = vec![encode_policy(policy)];
+    swaps.extend((0..count).map(|_| encode_policy(&other_policy(random, policy))));
+    for _ in 0..random.between(1, 2) {
+        let mut bytes = swaps[random.below(swaps.len())].clone();
+        match random.below(4) {
+            0 => bytes.truncate(random.below(bytes.len().max(1))),
+            1 => bytes.resize(bytes.len() + random.between(1, 3), 0),
+            2 => bytes = damaged(random, &bytes),
+            _ => bytes = stray_policy(random, policy),
+        }
+        swaps.push(bytes);
+    }
+    swaps
+}
+
+/// A call, with the policy that it is lent.
+#[derive(Clone, Debug)]
+pub struct Call {
+    pub policy: Vec<u8>,
+    pub kind: Kind,
+}
+
+/// Which call it is, and what is offered.
+#[derive(Clone, Debug)]
+pub enum Kind {
+    Open,
+    Receive(Vec<u8>),
+    ReceivePacket(Vec<u8>),
+}
+
+/// Calls that are lent these policies at will, the first of which is one; two in three are lent the same as the last
+/// opening. What is offered under a policy is mostly of one trace, so that most of it is accepted after an opening.
+pub fn calls(random: &mut Random, policies: &[Vec<u8>], count: usize) -> Vec<Call> {
+    let first = read(&policies[0]).expect("the first is a policy");
+    let policy_of = |bytes: &Vec<u8>| read(bytes).unwrap_or_else(|_| first.clone());
+    let mut with_trace = |policy: Policy| (trace(random, &policy, 1), policy);
+    let senders: Vec<(Trace, Policy)> = policies.iter().map(policy_of).map(&mut with_trace).collect();
+    let mut last = 0;
+    let mut call = |_| {
+        let lent = if random.once_in(3) { random.below(policies.len()) } else { last };
+        let (trace, sender) = &senders[lent];
+        let kind = match random.below(6) {
+            0 => {
+                last = lent;
+                Kind::Open
+            }
+            1 => {
+                let count = random.below(4);
+                Kind::ReceivePacket(offers(random, sender, trace, count).concat())
+            }
+            _ => Kind::Receive(offers(random, sender, trace, 1).concat()),
+        };
+        Call { policy: policies[lent].clone(), kind }
+    };
+    (0..count).map(&mut call).collect()
 }
 
 /// A standard input for the printing program: some with a refused or overlong policy, some with a wrong length, some

@@ -2,14 +2,14 @@
 //! a message conflicts with it.
 
 use crate::message::{Fixed, Message};
-use crate::policy::Policy;
+use crate::policy::{Policy, MOST_BYTES};
 use crate::truth::Truth;
 use std::collections::HashMap;
 
 /// The cell of a sequence number that is not known.
 pub const NOT_KNOWN: u16 = 65535;
 
-/// The four lent buffers. Sequence numbers and facts are the knowledge.
+/// The five lent buffers and the lent number. Sequence numbers, facts, origin and extent are the knowledge.
 #[derive(Clone, Debug, Default, PartialEq, Eq)]
 pub struct Buffers {
     /// Counts: "stations times (M + 1), one run per station, the first place standing for before minute 0".
@@ -20,6 +20,10 @@ pub struct Buffers {
     pub valuation: Vec<u8>,
     /// Verdict sheet: "rules times M (0 blank, 1 kept, 2 broken)".
     pub verdicts: Vec<u8>,
+    /// "A lent buffer of 517 bytes holding the card's bytes, then zeros": the policy that the state was opened under.
+    pub origin: Vec<u8>,
+    /// "One number with the card's length": how many bytes that policy has.
+    pub extent: u16,
 }
 
 impl Buffers {
@@ -30,6 +34,8 @@ impl Buffers {
             facts: vec![0; 2 * policy.minutes],
             valuation: vec![0; policy.subformulas.len() * policy.minutes],
             verdicts: vec![0; verdicts_size(policy)],
+            origin: vec![0; MOST_BYTES],
+            extent: 0,
         }
     }
 
@@ -40,6 +46,7 @@ impl Buffers {
             && self.facts.len() == exact.facts.len()
             && self.valuation.len() == exact.valuation.len()
             && self.verdicts.len() == exact.verdicts.len()
+            && self.origin.len() == exact.origin.len()
     }
 
     /// The component's run: its cells, place by place.
@@ -92,6 +99,13 @@ impl Buffers {
             }
         }
     }
+}
+
+/// What opening a policy of these bytes, at most 517, writes into origin and extent: "the card's bytes, then zeros", and
+/// "the card's length".
+pub fn origin_of(policy: &[u8]) -> (Vec<u8>, u16) {
+    let zeros = vec![0; MOST_BYTES - policy.len()];
+    ([policy, &zeros].concat(), policy.len() as u16)
 }
 
 /// The exact size of the verdicts.

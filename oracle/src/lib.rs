@@ -11,12 +11,12 @@
 //! | `policy`, `message` | the two readers |
 //! | `write` | the two writers |
 //! | `trace` | one run of the components, and what it could have sent |
-//! | `knowledge` | the four buffers: soundness, what a message fixes, conflicts, known time points, searches |
+//! | `knowledge` | the state: sizes, origin, soundness, what a message fixes, conflicts, known time points, searches |
 //! | `reading` | the three-valued and the two-valued reading, and the verdicts |
 //! | `monitor` | the calls: open, receive, receive_packet, lookup |
 //! | `program` | the printing program |
 //! | `brute` | every trace of a tiny policy, and what must hold over all of them |
-//! | `generate` | random policies, messages, traces, fields, damage and program inputs |
+//! | `generate` | random policies, messages, traces, fields, damage, swapped policies and program inputs |
 //!
 //! A harness that links the monitor calls both with the same bytes and compares [`Answer`] or [`PacketAnswer`], and
 //! [`Buffers`], after every call; of a writer the length or refusal, and the lent buffer.

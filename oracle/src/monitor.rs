@@ -1,7 +1,8 @@
 //! The calls: open (opening), receive (take), receive_packet (packet call of document 02) and lookup (look), with their
-//! checks in document 01's order. A refusal writes nothing; of a packet "it is meant of each take in the packet".
+//! checks in document 01's order, and 12 of document 02 "after 5 and before 6". A refusal writes nothing; of a packet "it
+//! is meant of each take in the packet".
 
-use crate::knowledge::{conflict, sound, time_points, time_points_of_many, verdicts_size, Buffers};
+use crate::knowledge::{conflict, origin_of, sound, time_points, time_points_of_many, verdicts_size, Buffers};
 use crate::message;
 use crate::policy::{self, Policy};
 use crate::reading::{standing, valuation, valuation_of_many, verdicts, Verdict};
@@ -36,20 +37,22 @@ pub enum Look {
 /// Policies of at most so many minutes are read by the plain sums, longer ones by the quicker form.
 const MINUTES_BY_SUMS: usize = 24;
 
-/// Opening: checks 1 to 5, then a fresh record, its reading, and blank verdicts, whatever the buffers held.
+/// Opening: checks 1 to 5, then a fresh record, its reading, blank verdicts, and the policy with its length, whatever
+/// the buffers held.
 pub fn open(policy: &[u8], buffers: &mut Buffers) -> Answer {
     match checked_policy(policy, buffers) {
         Err(refusal) => Answer::Refused(refusal),
-        Ok(policy) => {
-            buffers.forget(&policy);
-            buffers.valuation = read_all(&policy, buffers);
+        Ok(read) => {
+            buffers.forget(&read);
+            buffers.valuation = read_all(&read, buffers);
             buffers.verdicts.fill(Verdict::Unknown.code());
+            (buffers.origin, buffers.extent) = origin_of(policy);
             Answer::Done
         }
     }
 }
 
-/// A take: checks 1 to 9, then what the message fixes is learnt and both sheets are rewritten whole.
+/// A take: checks 1 to 5, 12 and 6 to 9, then what the message fixes is learnt and both sheets are rewritten whole.
 pub fn receive(policy: &[u8], message: &[u8], buffers: &mut Buffers) -> Answer {
     match checked_message(policy, message, buffers) {
         Err(refusal) => Answer::Refused(refusal),
@@ -62,8 +65,9 @@ pub fn receive(policy: &[u8], message: &[u8], buffers: &mut Buffers) -> Answer {
     }
 }
 
-/// A packet: checks 1 to 6, also where it is empty; then it "takes slips until the packet ends or one is refused, and
-/// leaves everything as the same takes one by one would". A message that ends early is all that is left of the packet.
+/// A packet: checks 1 to 5, 12 and 6, also where it is empty; then it "takes slips until the packet ends or one is
+/// refused, and leaves everything as the same takes one by one would". A message that ends early is all that is left of
+/// the packet.
 pub fn receive_packet(policy: &[u8], packet: &[u8], buffers: &mut Buffers) -> PacketAnswer {
     let checked = match checked_knowledge(policy, buffers) {
         Err(refusal) => return PacketAnswer { taken: 0, refusal: Some(refusal) },
@@ -101,16 +105,26 @@ fn checked_policy(policy: &[u8], buffers: &Buffers) -> Result<Policy, Refusal> {
     Ok(policy)
 }
 
-/// Checks 1 to 6.
+/// Checks 1 to 5 and 12: "when the stored length or any of the 517 bytes isn't what opening that card writes".
+fn checked_origin(policy: &[u8], buffers: &Buffers) -> Result<Policy, Refusal> {
+    let read = checked_policy(policy, buffers)?;
+    let (origin, extent) = origin_of(policy);
+    if buffers.extent != extent || buffers.origin != origin {
+        return refuse(OTHER_POLICY, 0);
+    }
+    Ok(read)
+}
+
+/// Checks 1 to 5, 12 and 6.
 fn checked_knowledge(policy: &[u8], buffers: &Buffers) -> Result<Policy, Refusal> {
-    let policy = checked_policy(policy, buffers)?;
+    let policy = checked_origin(policy, buffers)?;
     if !sound(&policy, buffers) {
         return refuse(CORRUPT_KNOWLEDGE, 0);
     }
     Ok(policy)
 }
 
-/// Checks 1 to 9.
+/// Checks 1 to 5, 12 and 6 to 9.
 fn checked_message(policy: &[u8], message: &[u8], buffers: &Buffers) -> Result<(Policy, message::Message), Refusal> {
     let policy = checked_knowledge(policy, buffers)?;
     let message = message::read(&policy, message)?;

@@ -22,8 +22,11 @@ pub const CONFLICT: u8 = 9;
 pub const OUT_OF_RANGE: u8 = 10;
 /// Short paper: the lent buffer is shorter than the text.
 pub const SHORT_BUFFER: u8 = 11;
+/// Other card: the knowledge was not opened under the policy that is lent.
+pub const OTHER_POLICY: u8 = 12;
 
-/// Why a call was turned away. The place is 0 where document 01's table says 0.
+/// Why a call was turned away. The place is 0 where document 01's table says 0, and with a
+/// number added later.
 #[derive(Clone, Copy, Debug, PartialEq, Eq)]
 pub struct Refusal {
     pub number: u8,

@@ -320,7 +320,7 @@ fn offered(policy: &[u8], message: &[u8], buffers: &Buffers) -> Answer {
 #[test]
 fn a_buffer_of_another_size_is_5() {
     let (policy, buffers) = fresh();
-    let changes: [fn(&mut Buffers); 8] = [
+    let changes: [fn(&mut Buffers); 11] = [
         |buffers| buffers.numbers.push(0),
         |buffers| buffers.numbers.truncate(2),
         |buffers| buffers.facts.push(0),
@@ -329,11 +329,15 @@ fn a_buffer_of_another_size_is_5() {
         |buffers| buffers.valuation.truncate(2),
         |buffers| buffers.verdicts.push(0),
         |buffers| buffers.verdicts.truncate(2),
+        |buffers| buffers.origin.push(0),
+        |buffers| buffers.origin.truncate(516),
+        |buffers| buffers.origin.clear(),
     ];
     for change in changes {
         let mut buffers = buffers.clone();
         change(&mut buffers);
-        // Before 6 and 7.
+        // Before 12, 6 and 7.
+        buffers.extent = 0;
         buffers.numbers[0] = 1;
         let before = buffers.clone();
         assert_eq!(offered(&policy, &[], &buffers), refused(BUFFER_SIZE));
@@ -352,6 +356,8 @@ fn opening_writes_every_cell_whatever_it_held() {
     buffers.facts.fill(u32::MAX);
     buffers.valuation.fill(9);
     buffers.verdicts.fill(9);
+    buffers.origin.fill(9);
+    buffers.extent = 9;
     assert_eq!(open(&policy, &mut buffers), Answer::Done);
     assert_eq!(buffers, expected);
 }
@@ -464,20 +470,23 @@ fn a_packet_of_which_none_is_taken_changes_nothing() {
     assert_eq!(none_taken(&policy, &[0x04, 2, 0, 0x10], &buffers), Some((9, 0)));
 }
 
-/// An empty packet has the checks 1 to 6 too, and they keep their places.
+/// An empty packet has the checks 1 to 5, 12 and 6 too, and they keep their places.
 #[test]
-fn a_packet_checks_1_to_6_first() {
+fn a_packet_checks_1_to_6_and_12_first() {
     let (policy, fresh) = fresh();
-    let mut wrong_size = fresh.clone();
-    wrong_size.verdicts.push(0);
     let mut unsound = fresh.clone();
     unsound.numbers[0] = 1;
+    let mut other = unsound.clone();
+    other.extent = 7;
+    let mut wrong_size = other.clone();
+    wrong_size.verdicts.push(0);
     for packet in [&[][..], &[0x10, 0x10], &[0x10, 0x00], &[0x00], &[0x04]] {
         assert_eq!(none_taken(&policy[..4], packet, &fresh), Some((1, 4)));
         assert_eq!(none_taken(&[2, 17, 3, 0, 1, 0x20], packet, &fresh), Some((2, 1)));
         assert_eq!(none_taken(&with_lines(&[RULE, &[0x40]]), packet, &fresh), Some((3, 6)));
         assert_eq!(none_taken(&with_lines(&[TRUE]), packet, &wrong_size), Some((4, 0)));
         assert_eq!(none_taken(&policy, packet, &wrong_size), Some((5, 0)));
+        assert_eq!(none_taken(&policy, packet, &other), Some((12, 0)));
         assert_eq!(none_taken(&policy, packet, &unsound), Some((6, 0)));
     }
 }

@@ -71,10 +71,12 @@ fn buffers_of_the_opening_and_after_three_messages() {
     assert_eq!(buffers.numbers, [0, 65535, 65535, 65535, 65535]);
     assert_eq!(buffers.facts, [0; 8]);
     assert_eq!(buffers.valuation, [1, 1, 1, 1, 0, 0, 0, 0, 0, 0, 0, 0]);
+    assert_eq!((buffers.extent, buffers.origin), (13, [K, &[0; 504]].concat()));
     let buffers = after(K, &[A, B, D]);
     assert_eq!(buffers.numbers, [0, 1, 1, 2, 3]);
     assert_eq!(buffers.facts, [1, 0, 0, 0, 1, 1, 0, 0]);
     assert_eq!(buffers.valuation, [1, 1, 1, 1, 2, 0, 1, 0, 2, 2, 1, 1]);
+    assert_eq!((buffers.extent, buffers.origin), (13, [K, &[0; 504]].concat()));
 }
 
 #[test]

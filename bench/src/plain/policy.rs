@@ -1,6 +1,7 @@
 //! The policy's reader.
 
 use super::Refusal;
+use zankezurt::{State, POLICY_LENGTH};
 
 #[derive(Clone, Copy)]
 pub enum Formula {
@@ -33,11 +34,12 @@ impl Policy {
     }
 
     /// Are the lent buffers of exact size?
-    pub fn fits(&self, numbers: usize, facts: usize, valuation: usize, verdicts: usize) -> bool {
-        numbers == self.components * (self.minutes + 1)
-            && facts == 2 * self.minutes
-            && valuation == self.count * self.minutes
-            && verdicts == self.rules * self.minutes
+    pub fn fits(&self, state: &State<'_>) -> bool {
+        state.numbers.len() == self.components * (self.minutes + 1)
+            && state.facts.len() == 2 * self.minutes
+            && state.valuation.len() == self.count * self.minutes
+            && state.verdicts.len() == self.rules * self.minutes
+            && state.origin.len() == POLICY_LENGTH
     }
 }
 

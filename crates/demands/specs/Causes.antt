@@ -2,13 +2,12 @@
 -- check after them one number: so a number's cause is that the checks before its own pass and its own fails.
 use Prim.Native.Nat.{ℕ, _≤_}
 use native.Mathlib.Omega.{arith}
-use mathlib.Core.Path.{_≡_, refl, sym, ap, _∙_}
+use mathlib.Core.Path.{_≡_, refl, sym, ap, subst, _∙_}
 use mathlib.Core.Bool.{Bool, true, false, true≢false}
 use mathlib.Core.Logic.{_↔_, _⊎_, inl, inr}
 use mathlib.Core.List.{List, [], _∷_, _++_}
-use lib.ListN.{length}
 use Rattle.refusal.specs.declared.Refusal.{Refusal}
-use Rattle.refusal.specs.declared.Refusal.the-variants.{TruncatedPolicy, BadHeading, BadSubformula, RuleCount, BufferSize, CorruptKnowledge, TruncatedMessage, BadMessage, Conflict}
+use Rattle.refusal.specs.declared.Refusal.the-variants.{TruncatedPolicy, BadHeading, BadSubformula, RuleCount, BufferSize, CorruptKnowledge, TruncatedMessage, BadMessage, Conflict, OtherPolicy}
 use Rattle.refusal.specs.declared.Answer.{Answer as Checked}
 use Rattle.refusal.specs.declared.Answer.the-variants as C
 use Rattle.refusal.specs.Numbers.{refusal-number, refusal-place, refusal-of}
@@ -24,7 +23,8 @@ use Rattle.knowledge.specs.Knowledge.{Sound, sound, admits}
 use Rattle.knowledge.specs.Laws.{Limits, sound-law}
 use Rattle.knowledge.specs.Conflict.{admits-law}
 use Rattle.monitor.specs.declared.Answer.the-variants.{Done, Refused}
-use Rattle.monitor.specs.State.{State, Outcome, unless, Sized, sized, opened, settled, slip-checks, record-checks, opening-checks, take-checks, open-state, receive, Taken}
+use Rattle.origin.specs.Origin.{origin-of, opened-under, under-law}
+use Rattle.monitor.specs.State.{State, Outcome, unless, Sized, sized, opened, settled, slip-checks, origin-checks, record-checks, opening-checks, take-checks, open-state, receive, Taken}
 use Rattle.monitor.specs.Demands.{sizes-of, Some-trace, reply, Policy-causes, Policy-passed, Opening-causes, Passed, Take-causes}
 use Rattle.monitor.specs.Laws.{knowledge-sized, sized-law}
 
@@ -40,6 +40,9 @@ at-zero-two f = (λ q. let b = f .0 (q .0) in (sym (q .2), b .0, b .1), λ q. (f
 
 pub at-zero-three : {A B C D : Type 0} {at : ℕ} {n : ℕ} → A ↔ (B × C × D) → (A × (n ≡ n) × (0 ≡ at)) ↔ ((at ≡ 0) × B × C × D)
 at-zero-three f = (λ q. let b = f .0 (q .0) in (sym (q .2), b .0, b .1, b .2), λ q. (f .1 (q .1, q .2, q .3), refl, sym (q .0)))
+
+pub at-zero-four : {A B C D E : Type 0} {at : ℕ} {n : ℕ} → A ↔ (B × C × D × E) → (A × (n ≡ n) × (0 ≡ at)) ↔ ((at ≡ 0) × B × C × D × E)
+at-zero-four f = (λ q. let b = f .0 (q .0) in (sym (q .2), b .0, b .1, b .2, b .3), λ q. (f .1 (q .1, q .2, q .3, q .4), refl, sym (q .0)))
 
 pub at-place : {A B : Type 0} {at n : ℕ} → A ↔ B → (A × (n ≡ n) × (at ≡ at)) ↔ B
 at-place f = (λ q. f .0 (q .0), λ b. (f .1 b, refl, refl))
@@ -138,7 +141,7 @@ module _ (s : List ℕ) (k : Policy-reader-causes s) where
 
     -- ---- an opening
 
-    done-law : (a : Checked) → (unless a x (record { answer = Done; state = opened (policy-of s) }) .answer ≡ Done) ↔ (a ≡ C.Accepted)
+    done-law : (a : Checked) → (unless a x (record { answer = Done; state = opened (policy-of s) (origin-of s) }) .answer ≡ Done) ↔ (a ≡ C.Accepted)
     done-law C.Accepted = (λ e. refl, λ e. refl)
     done-law (C.Refused r) = (λ e. ap reply e, λ e. absurd (not-accepted r e))
 
@@ -146,13 +149,13 @@ module _ (s : List ℕ) (k : Policy-reader-causes s) where
     unfolding open-state
     opening-causes =
         let cs = opening-checks s x in
-        let e = reply-unless (first-failed cs) x (record { answer = Done; state = opened (policy-of s) }) refl in
+        let e = reply-unless (first-failed cs) x (record { answer = Done; state = opened (policy-of s) (origin-of s) }) refl in
         record {
           policy = rw e (policy-part cs sizes-policy);
           five = λ at. rw e (via (number-law cs 5 at) (at-zero-two misfit));
           no-other = λ n at. rw e (λ w. in-range n at (number-law cs n at .0 w));
           done = via (done-law (first-failed cs)) (via (passing-law cs) passed-sizes);
-          unwritten = unwritten (first-failed cs) x (record { answer = Done; state = opened (policy-of s) }) refl;
+          unwritten = unwritten (first-failed cs) x (record { answer = Done; state = opened (policy-of s) (origin-of s) }) refl;
         }
       where
         in-range : (n at : ℕ) → Refuses (opening-checks s x) (refusal-of n at) × (refusal-number (refusal-of n at) ≡ n) × (refusal-place (refusal-of n at) ≡ at) → (1 ≤ n) × (n ≤ 5)
@@ -160,32 +163,74 @@ module _ (s : List ℕ) (k : Policy-reader-causes s) where
 
     -- ---- the record's checks
 
+    abbrev under : Bool
+    under = opened-under s (x .origin)
+
     abbrev clean : Bool
     clean = sound (sizes-of s) (x .known)
 
     abbrev firsts : List Check
-    firsts = record-checks s (x .known) (length (x .valuation)) (length (x .verdicts))
+    firsts = record-checks s x
 
+    -- 1 to 5, and then 12
+    pub record Let-past : Type 0 where
+      pub policy : Policy-passed s
+      pub sized : Sized (policy-of s) x
+      pub origin : x .origin ≡ origin-of s
+
+    pub passed-origin : All-passed (origin-checks s x) ↔ Let-past
+    passed-origin =
+        via (passed-parts (opening-checks s x) (check under OtherPolicy ∷ []), λ q. passed-both (opening-checks s x) (check under OtherPolicy ∷ []) (q .0) (q .1))
+        (via (both-ways passed-sizes (via (one-passes under OtherPolicy) (under-law s (x .origin))))
+        (λ q. record { policy = q .0 .0; sized = q .0 .1; origin = q .1 }, λ q. ((q .policy, q .sized), q .origin)))
+
+    pub origin-number : (r : Refusal) → Refuses (origin-checks s x) r → ((1 ≤ refusal-number r) × (refusal-number r ≤ 5)) ⊎ (refusal-number r ≡ 12)
+    origin-number r q = go (refused-where (opening-checks s x) (check under OtherPolicy ∷ []) r q)
+      where
+        go : Refuses (opening-checks s x) r ⊎ (All-passed (opening-checks s x) × Refuses (check under OtherPolicy ∷ []) r) → ((1 ≤ refusal-number r) × (refusal-number r ≤ 5)) ⊎ (refusal-number r ≡ 12)
+        go (inl h) = inl (sizes-number r h)
+        go (inr h) = inr (one-number under OtherPolicy r (h .1))
+
+    other : Refuses (origin-checks s x) OtherPolicy ↔ ((Policy-passed s × Sized (policy-of s) x) × (x .origin ≡ origin-of s → ⊥))
+    other =
+        via (refused-after (opening-checks s x) (check under OtherPolicy ∷ []) OtherPolicy (λ q. omega (arith, sizes-number OtherPolicy q)))
+        (both-ways passed-sizes (via (one-fails under OtherPolicy) (decided (under-law s (x .origin)))))
+
+    -- and then 6
     pub passed-record : All-passed firsts ↔ Passed s x
     passed-record =
-        via (passed-parts (opening-checks s x) (check clean CorruptKnowledge ∷ []), λ q. passed-both (opening-checks s x) (check clean CorruptKnowledge ∷ []) (q .0) (q .1))
-        (via (both-ways passed-sizes (via (one-passes clean CorruptKnowledge) (sound-law (sizes-of s) (x .known))))
-        (λ q. record { policy = q .0 .0; sized = q .0 .1; sound = q .1 }, λ q. ((q .policy, q .sized), q .sound)))
+        via (passed-parts (origin-checks s x) (check clean CorruptKnowledge ∷ []), λ q. passed-both (origin-checks s x) (check clean CorruptKnowledge ∷ []) (q .0) (q .1))
+        (via (both-ways passed-origin (via (one-passes clean CorruptKnowledge) (sound-law (sizes-of s) (x .known))))
+        (λ q. record { policy = q .0 .policy; sized = q .0 .sized; origin = q .0 .origin; sound = q .1 }, λ q. (record { policy = q .policy; sized = q .sized; origin = q .origin }, q .sound)))
 
-    pub record-number : (r : Refusal) → Refuses firsts r → (1 ≤ refusal-number r) × (refusal-number r ≤ 6)
-    record-number r q = go (refused-where (opening-checks s x) (check clean CorruptKnowledge ∷ []) r q)
+    pub record-number : (r : Refusal) → Refuses firsts r → ((1 ≤ refusal-number r) × (refusal-number r ≤ 6)) ⊎ (refusal-number r ≡ 12)
+    record-number r q = go (refused-where (origin-checks s x) (check clean CorruptKnowledge ∷ []) r q)
       where
-        go : Refuses (opening-checks s x) r ⊎ (All-passed (opening-checks s x) × Refuses (check clean CorruptKnowledge ∷ []) r) → (1 ≤ refusal-number r) × (refusal-number r ≤ 6)
-        go (inl h) = omega (arith, sizes-number r h)
-        go (inr h) = omega (arith, one-number clean CorruptKnowledge r (h .1))
+        early : ((1 ≤ refusal-number r) × (refusal-number r ≤ 5)) ⊎ (refusal-number r ≡ 12) → ((1 ≤ refusal-number r) × (refusal-number r ≤ 6)) ⊎ (refusal-number r ≡ 12)
+        early (inl h) = inl (omega (arith, h))
+        early (inr h) = inr h
 
+        go : Refuses (origin-checks s x) r ⊎ (All-passed (origin-checks s x) × Refuses (check clean CorruptKnowledge ∷ []) r) → ((1 ≤ refusal-number r) × (refusal-number r ≤ 6)) ⊎ (refusal-number r ≡ 12)
+        go (inl h) = early (origin-number r h)
+        go (inr h) = inl (omega (arith, one-number clean CorruptKnowledge r (h .1)))
+
+    -- what 5 or an earlier check answers, and what 12 answers, is answered where 6 is not reached
     record-sizes : (r : Refusal) → refusal-number r ≤ 5 → Refuses firsts r ↔ Refuses (opening-checks s x) r
-    record-sizes r l = refused-before (opening-checks s x) (check clean CorruptKnowledge ∷ []) r (λ q. omega (arith, one-number clean CorruptKnowledge r q))
+    record-sizes r l =
+        via (refused-before (origin-checks s x) (check clean CorruptKnowledge ∷ []) r (λ q. omega (arith, one-number clean CorruptKnowledge r q)))
+        (refused-before (opening-checks s x) (check under OtherPolicy ∷ []) r (λ q. omega (arith, one-number under OtherPolicy r q)))
 
-    corrupt : Refuses firsts CorruptKnowledge ↔ ((Policy-passed s × Sized (policy-of s) x) × (Sound (sizes-of s) (x .known) → ⊥))
+    record-other : Refuses firsts OtherPolicy ↔ Refuses (origin-checks s x) OtherPolicy
+    record-other = refused-before (origin-checks s x) (check clean CorruptKnowledge ∷ []) OtherPolicy (λ q. omega (arith, one-number clean CorruptKnowledge OtherPolicy q))
+
+    corrupt : Refuses firsts CorruptKnowledge ↔ (Let-past × (Sound (sizes-of s) (x .known) → ⊥))
     corrupt =
-        via (refused-after (opening-checks s x) (check clean CorruptKnowledge ∷ []) CorruptKnowledge (λ q. omega (arith, sizes-number CorruptKnowledge q)))
-        (both-ways passed-sizes (via (one-fails clean CorruptKnowledge) (decided (sound-law (sizes-of s) (x .known)))))
+        via (refused-after (origin-checks s x) (check clean CorruptKnowledge ∷ []) CorruptKnowledge (λ q. not-there (origin-number CorruptKnowledge q)))
+        (both-ways passed-origin (via (one-fails clean CorruptKnowledge) (decided (sound-law (sizes-of s) (x .known)))))
+      where
+        not-there : ((1 ≤ 6) × (6 ≤ 5)) ⊎ (_≡_ {A = ℕ} 6 12) → ⊥
+        not-there (inl h) = omega (arith, h)
+        not-there (inr h) = omega (arith, h)
 
     -- ---- a take
 
@@ -202,11 +247,19 @@ module _ (s : List ℕ) (k : Policy-reader-causes s) where
       message-number r (there p (here e)) = omega arith
       message-number r (there p (there q (here e))) = omega arith
 
-      early : (r : Refusal) → refusal-number r ≤ 6 → Refuses (take-checks s x b) r ↔ Refuses firsts r
-      early r l = refused-before firsts slip r (λ q. omega (arith, slip-number s x b r q))
+      early : (r : Refusal) → (refusal-number r ≤ 6) ⊎ (refusal-number r ≡ 12) → Refuses (take-checks s x b) r ↔ Refuses firsts r
+      early r l = refused-before firsts slip r (λ q. not-there l (slip-number s x b r q))
+        where
+          not-there : (refusal-number r ≤ 6) ⊎ (refusal-number r ≡ 12) → (7 ≤ refusal-number r) × (refusal-number r ≤ 9) → ⊥
+          not-there (inl h) q = omega (arith, h, q)
+          not-there (inr h) q = omega (arith, h, q)
 
-      late : (r : Refusal) → (refusal-number r ≤ 6 → ⊥) → Refuses (take-checks s x b) r ↔ (Passed s x × Refuses slip r)
-      late r n = via (refused-after firsts slip r (λ q. n (record-number r q .1))) (both-ways passed-record same)
+      late : (r : Refusal) → (7 ≤ refusal-number r) × (refusal-number r ≤ 9) → Refuses (take-checks s x b) r ↔ (Passed s x × Refuses slip r)
+      late r n = via (refused-after firsts slip r (λ q. not-there (record-number r q))) (both-ways passed-record same)
+        where
+          not-there : ((1 ≤ refusal-number r) × (refusal-number r ≤ 6)) ⊎ (refusal-number r ≡ 12) → ⊥
+          not-there (inl h) = omega (arith, h, n)
+          not-there (inr h) = omega (arith, h, n)
 
       -- the message's own checks
       in-message : (r : Refusal) → refusal-number r ≤ 8 → Refuses slip r ↔ (message-answer (sizes-of s) b ≡ C.Refused r)
@@ -223,7 +276,7 @@ module _ (s : List ℕ) (k : Policy-reader-causes s) where
       agreed : Passed s x → Well-formed (sizes-of s) b → (free ≡ true) ↔ Some-trace (sizes-of s) (x .known) (meaning-of b)
       agreed p w =
           let e = k .accepted .1 (p .policy) in
-          admits-law (sizes-of s) (limits e) (x .known) (meaning-of b) (knowledge-sized (policy-of s) x (p .sized)) (ranged e w) (p .sound)
+          admits-law (sizes-of s) (limits e) (x .known) (meaning-of b) (knowledge-sized (policy-of s) (p .sized .sheets)) (ranged e w) (p .sound)
 
       conflict : (Passed s x × Refuses slip Conflict) ↔ (Passed s x × Well-formed (sizes-of s) b × (Some-trace (sizes-of s) (x .known) (meaning-of b) → ⊥))
       conflict = (there-is, back-to)
@@ -265,9 +318,13 @@ module _ (s : List ℕ) (k : Policy-reader-causes s) where
           let cs = take-checks s x b in
           let e = reply-unless (first-failed cs) x (settled (policy-of s) x (meaning-of b)) refl in
           record {
-            policy = rw e (policy-part cs (λ r l. via (early r (omega arith)) (via (record-sizes r (omega arith)) (sizes-policy r l))));
-            five = λ at. rw e (via (number-law cs 5 at) (at-zero-two (via (early BufferSize (omega arith)) (via (record-sizes BufferSize (omega arith)) misfit))));
-            six = λ at. rw e (via (number-law cs 6 at) (at-zero-three (via (early CorruptKnowledge (omega arith)) (via corrupt (λ q. (q .0 .0, q .0 .1, q .1), λ q. ((q .0, q .1), q .2))))));
+            policy = rw e (policy-part cs (λ r l. via (early r (inl (omega arith))) (via (record-sizes r (omega arith)) (sizes-policy r l))));
+            five = λ at. rw e (via (number-law cs 5 at) (at-zero-two (via (early BufferSize (inl (omega arith))) (via (record-sizes BufferSize (omega arith)) misfit))));
+            twelve = λ at. rw e (via (number-law cs 12 at) (at-zero-three (via (early OtherPolicy (inr refl)) (via record-other (via other (λ q. (q .0 .0, q .0 .1, q .1), λ q. ((q .0, q .1), q .2)))))));
+            six = λ at. rw e (via (number-law cs 6 at) (at-zero-four (via (early CorruptKnowledge (inl (omega arith))) (via corrupt (
+              λ q. (q .0 .policy, q .0 .sized, q .0 .origin, q .1),
+              λ q. (record { policy = q .0; sized = q .1; origin = q .2 }, q .3),
+            )))));
             seven = λ at. rw e (via (number-law cs 7 at) (at-place (via (late (TruncatedMessage at) (omega arith)) (both-ways same (via (in-message (TruncatedMessage at) (omega arith)) (km .seven at))))));
             eight = λ at. rw e (via (number-law cs 8 at) (at-zero-three (via (late BadMessage (omega arith)) (via (both-ways same (via (in-message BadMessage (omega arith)) (km .eight))) (λ q. (q .0, q .1 .0, q .1 .1), λ q. (q .0, (q .1, q .2)))))));
             nine = λ at. rw e (via (number-law cs 9 at) (at-zero-three (via (late Conflict (omega arith)) conflict)));
@@ -276,9 +333,13 @@ module _ (s : List ℕ) (k : Policy-reader-causes s) where
             unwritten = unwritten (first-failed cs) x (settled (policy-of s) x (meaning-of b)) refl;
           }
         where
-          either : (r : Refusal) → Refuses firsts r ⊎ (All-passed firsts × Refuses slip r) → (1 ≤ refusal-number r) × (refusal-number r ≤ 9)
-          either r (inl h) = omega (arith, record-number r h)
-          either r (inr h) = omega (arith, slip-number s x b r (h .1))
+          wider : {n : ℕ} → ((1 ≤ n) × (n ≤ 6)) ⊎ (n ≡ 12) → ((1 ≤ n) × (n ≤ 9)) ⊎ (n ≡ 12)
+          wider (inl h) = inl (omega (arith, h))
+          wider (inr h) = inr h
 
-          in-range : (n at : ℕ) → Refuses (take-checks s x b) (refusal-of n at) × (refusal-number (refusal-of n at) ≡ n) × (refusal-place (refusal-of n at) ≡ at) → (1 ≤ n) × (n ≤ 9)
-          in-range n at q = omega (arith, either (refusal-of n at) (refused-where firsts slip (refusal-of n at) (q .0)), q .1)
+          either : (r : Refusal) → Refuses firsts r ⊎ (All-passed firsts × Refuses slip r) → ((1 ≤ refusal-number r) × (refusal-number r ≤ 9)) ⊎ (refusal-number r ≡ 12)
+          either r (inl h) = wider (record-number r h)
+          either r (inr h) = inl (omega (arith, slip-number s x b r (h .1)))
+
+          in-range : (n at : ℕ) → Refuses (take-checks s x b) (refusal-of n at) × (refusal-number (refusal-of n at) ≡ n) × (refusal-place (refusal-of n at) ≡ at) → ((1 ≤ n) × (n ≤ 9)) ⊎ (n ≡ 12)
+          in-range n at q = subst (λ (m : ℕ). ((1 ≤ m) × (m ≤ 9)) ⊎ (m ≡ 12)) (q .1) (either (refusal-of n at) (refused-where firsts slip (refusal-of n at) (q .0)))

@@ -20,13 +20,15 @@ use Rattle.knowledge.specs.Knowledge.{Knowledge, none, number, Sound, sound, fr
 use Rattle.knowledge.specs.Laws.{Free, free-law, sound-law}
 use Rattle.knowledge.specs.Store.{Fact, fact-law, store-long, number-either, number-hit, facts-after, numbers-after}
 use Rattle.valuation.specs.Sheets.{valuation-of, verdicts-of}
+use Rattle.origin.specs.Origin.{Origin}
 use Rattle.monitor.specs.State.{State, Sized, opened, over}
-use Rattle.monitor.specs.Laws.{knowledge-sized, sheet-lengths, fresh-number, fresh-known, fresh-first, fresh-facts, fresh-noted, fresh-sound, blank-sheet, lengths}
+use Rattle.monitor.specs.Laws.{knowledge-sized, over-sized, fresh-number, fresh-known, fresh-first, fresh-facts, fresh-noted, fresh-sound, blank-sheet, lengths}
 use Rattle.monitor.specs.Demands.{Exact}
 
-module _ (c : Policy) where
+module _ (c : Policy) (o : Origin) where
   pub record Kept-up (x : State) (Q : Message → Type 0) : Type 0 where
     pub sized : Sized c x
+    pub origin : x .origin ≡ o
     pub exact : Exact (c .sizes) (x .known) Q
     pub fits : (m : Message) → Q m → Fits (c .sizes) m
     pub small : (m : Message) → Q m → (p n : ℕ) → Fixes-number (m .event) p n → n < none
@@ -37,6 +39,7 @@ module _ (c : Policy) where
   pub relabel : {x : State} {Q R : Message → Type 0} → ((m : Message) → Q m → R m) → ((m : Message) → R m → Q m) → Kept-up x Q → Kept-up x R
   relabel {x} {Q} {R} f g z = record {
     sized = z .sized;
+    origin = z .origin;
     exact = exact;
     fits = λ m r. z .fits m (g m r);
     small = λ m r. z .small m (g m r);
@@ -88,10 +91,14 @@ module _ (c : Policy) where
           go true = omega arith
           go false = omega arith
 
-  pub opened-up : Kept-up (opened c) (λ m. ⊥)
+  pub opened-up : length (o .bytes) ≡ 517 → Kept-up (opened c o) (λ m. ⊥)
   unfolding opened
-  opened-up = record {
-    sized = record { numbers = lengths c .0; facts = lengths c .1; valuation = lengths c .2; verdicts = length-replicate {A = ℕ} (c .rules * c .sizes .minutes) 0 };
+  opened-up l = record {
+    sized = record {
+      sheets = record { numbers = lengths c .0; facts = lengths c .1; valuation = lengths c .2; verdicts = length-replicate {A = ℕ} (c .rules * c .sizes .minutes) 0 };
+      origin = l;
+    };
+    origin = refl;
     exact = fresh-exact;
     fits = λ m q. absurd q;
     small = λ m q. absurd q;
@@ -124,7 +131,7 @@ module _ (c : Policy) where
     Q′ y = Q y ⊎ (y ≡ m)
 
     long : Long (c .sizes) k
-    long = knowledge-sized c x (up .sized)
+    long = knowledge-sized c (up .sized .sheets)
 
     lax : Free (c .sizes) k (m .component) (m .event)
     unfolding admits
@@ -186,9 +193,10 @@ module _ (c : Policy) where
             omega (arith, lax .small p (z .0) (z .2), ap (λ (y : ℕ). number (c .sizes) (stored (c .sizes) k m) y p) (sym (z .1)) ∙ number-hit (c .sizes) k m long fit p (z .0) (z .2))
         cap s p l h (inr z) = rw z (up .exact .unknown-number s p l h)
 
-    pub next-up : Kept-up (over c (stored (c .sizes) k m)) Q′
+    pub next-up : Kept-up (over c (x .origin) (stored (c .sizes) k m)) Q′
     next-up = record {
-      sized = record { numbers = store-long (c .sizes) k m long fit .numbers; facts = store-long (c .sizes) k m long fit .facts; valuation = sheet-lengths c (stored (c .sizes) k m) .0; verdicts = sheet-lengths c (stored (c .sizes) k m) .1 };
+      sized = over-sized c (x .origin) (stored (c .sizes) k m) (up .sized .origin) (store-long (c .sizes) k m long fit);
+      origin = up .origin;
       exact = next-exact;
       fits = fits;
       small = small;

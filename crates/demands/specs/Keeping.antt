@@ -22,6 +22,7 @@ use Rattle.knowledge.specs.Laws.{point-law}
 use Rattle.knowledge.specs.Store.{fact-law, fixed-place, fixed-fact}
 use Rattle.knowledge.specs.Worlds.{More, point-more, world-more}
 use Rattle.valuation.specs.Sheets.{value, verdict, valuation-of, verdicts-of}
+use Rattle.origin.specs.Origin.{Origin}
 use Rattle.monitor.specs.State.{State, over}
 use Rattle.monitor.specs.Demands.{shown, rule-line, Sheets}
 use Rattle.demands.specs.Invariant.{Kept-up}
@@ -64,9 +65,9 @@ module _ (c : Policy) where
       table-at (c .count * c .sizes .minutes) _ (l * c .sizes .minutes + t) 0 (in-grid (c .count) (c .sizes .minutes) l t h b)
       ∙ ap₂ (λ (x y : ℕ). code-of (value c k x y)) (row-of (c .sizes .minutes) l t b) (place-of (c .sizes .minutes) l t b)
 
-  verdict-at : (k : Knowledge) (r t : ℕ) → r < c .rules → t < c .sizes .minutes → shown c (over c k) r t ≡ verdict c k r t
+  verdict-at : (o : Origin) (k : Knowledge) (r t : ℕ) → r < c .rules → t < c .sizes .minutes → shown c (over c o k) r t ≡ verdict c k r t
   unfolding verdicts-of
-  verdict-at k r t h b =
+  verdict-at o k r t h b =
       table-at (c .rules * c .sizes .minutes) _ (r * c .sizes .minutes + t) 0 (in-grid (c .rules) (c .sizes .minutes) r t h b)
       ∙ ap₂ (λ (x y : ℕ). verdict c k x y) (row-of (c .sizes .minutes) r t b) (place-of (c .sizes .minutes) r t b)
 
@@ -81,12 +82,12 @@ module _ (c : Policy) where
   verdict-of-point : (k : Knowledge) (r t : ℕ) → is-point (c .sizes) k t ≡ true → verdict c k r t ≡ code-of (value c k (rule-line c r) t)
   verdict-of-point k r t e = ap (λ (b : Bool). cond b (code-of (value c k (rule-line c r) t)) 0) e
 
-  pub sheets-over : (k : Knowledge) → Sheets c (over c k)
-  sheets-over k = record {
+  pub sheets-over : (o : Origin) (k : Knowledge) → Sheets c (over c o k)
+  sheets-over o k = record {
     valuation = valuation-at k;
-    kept = λ r t h b. (λ e. there-kept r t (sym (verdict-at k r t h b) ∙ e), λ z. verdict-at k r t h b ∙ verdict-of-point k r t (point-law (c .sizes) k t .1 (z .0)) ∙ ap code-of (z .1));
-    broken = λ r t h b. (λ e. there-broken r t (sym (verdict-at k r t h b) ∙ e), λ z. verdict-at k r t h b ∙ verdict-of-point k r t (point-law (c .sizes) k t .1 (z .0)) ∙ ap code-of (z .1));
-    blank = λ r t h b x y. verdict-at k r t h b ∙ blank r t (λ e. x (verdict-at k r t h b ∙ e)) (λ e. y (verdict-at k r t h b ∙ e));
+    kept = λ r t h b. (λ e. there-kept r t (sym (verdict-at o k r t h b) ∙ e), λ z. verdict-at o k r t h b ∙ verdict-of-point k r t (point-law (c .sizes) k t .1 (z .0)) ∙ ap code-of (z .1));
+    broken = λ r t h b. (λ e. there-broken r t (sym (verdict-at o k r t h b) ∙ e), λ z. verdict-at o k r t h b ∙ verdict-of-point k r t (point-law (c .sizes) k t .1 (z .0)) ∙ ap code-of (z .1));
+    blank = λ r t h b x y. verdict-at o k r t h b ∙ blank r t (λ e. x (verdict-at o k r t h b ∙ e)) (λ e. y (verdict-at o k r t h b ∙ e));
   }
     where
       there-kept : (r t : ℕ) → verdict c k r t ≡ 1 → Known-point (c .sizes) k t × (value c k (rule-line c r) t ≡ true3)
@@ -103,16 +104,19 @@ module _ (c : Policy) where
           go true x y = code-blank (value c k (rule-line c r) t) x y
           go false x y = refl
 
+module _ (c : Policy) (o : Origin) where
   -- a kept-up state is the state over its knowledge
-  pub is-over : (x : State) (Q : Message → Type 0) → Kept-up c x Q → x ≡ over c (x .known)
-  is-over x Q up = ap₂ (λ (v d : List ℕ). record { known = x .known; valuation = v; verdicts = d }) (up .valuation) (up .verdicts)
+  pub is-over : (x : State) (Q : Message → Type 0) → Kept-up c o x Q → x ≡ over c o (x .known)
+  is-over x Q up =
+      ap₂ (λ (v d : List ℕ). record { known = x .known; valuation = v; verdicts = d; origin = x .origin }) (up .valuation) (up .verdicts)
+      ∙ ap (λ (u : Origin). over c u (x .known)) (up .origin)
 
-  pub shown-at : (x : State) (Q : Message → Type 0) → Kept-up c x Q → (r t : ℕ) → r < c .rules → t < c .sizes .minutes → shown c x r t ≡ verdict c (x .known) r t
-  shown-at x Q up r t h b = ap (λ (l : List ℕ). getD l (r * c .sizes .minutes + t) 0) (up .verdicts) ∙ verdict-at (x .known) r t h b
+  pub shown-at : (x : State) (Q : Message → Type 0) → Kept-up c o x Q → (r t : ℕ) → r < c .rules → t < c .sizes .minutes → shown c x r t ≡ verdict c (x .known) r t
+  shown-at x Q up r t h b = ap (λ (l : List ℕ). getD l (r * c .sizes .minutes + t) 0) (up .verdicts) ∙ verdict-at c o (x .known) r t h b
 
   -- ---- one kept-up state
 
-  module _ (x : State) (Q : Message → Type 0) (up : Kept-up c x Q) where
+  module _ (x : State) (Q : Message → Type 0) (up : Kept-up c o x Q) where
     -- only the card's propositions are known
     pub marked : (i t : ℕ) → t < c .sizes .minutes → noted (x .known) i t ≡ true → i < c .sizes .propositions
     marked i t h e = go (decLt i 32)
@@ -156,7 +160,7 @@ module _ (c : Policy) where
 
   -- ---- two kept-up states
 
-  more : (proper : Proper c) (x y : State) (Q R : Message → Type 0) → Kept-up c x Q → Kept-up c y R → ((m : Message) → Q m → R m) → More (c .sizes) (x .known) (y .known)
+  more : (proper : Proper c) (x y : State) (Q R : Message → Type 0) → Kept-up c o x Q → Kept-up c o y R → ((m : Message) → Q m → R m) → More (c .sizes) (x .known) (y .known)
   more proper x y Q R up vp f = record { numbers = numbers; facts = facts }
     where
       numbers : (s p : ℕ) → s < c .sizes .components → p ≤ c .sizes .minutes → number (c .sizes) (x .known) s p < none → number (c .sizes) (y .known) s p ≡ number (c .sizes) (x .known) s p
@@ -174,13 +178,13 @@ module _ (c : Policy) where
           let r = fact-law (y .known) i t (valued (x .known) i t) .0 (vp .exact .facts i t (valued (x .known) i t) l h .1 (z .0, f (z .0) (z .1), z .2)) in
           (r .is, r .so)
 
-  module _ (proper : Proper c) (x y : State) (Q R : Message → Type 0) (up : Kept-up c x Q) (vp : Kept-up c y R) (f : (m : Message) → Q m → R m) where
+  module _ (proper : Proper c) (x y : State) (Q R : Message → Type 0) (up : Kept-up c o x Q) (vp : Kept-up c o y R) (f : (m : Message) → Q m → R m) where
     pub stands : (r t : ℕ) → r < c .rules → t < c .sizes .minutes → shown c x r t ≢ 0 → shown c y r t ≡ shown c x r t
     stands r t h b n =
         let e = shown-at x Q up r t h b in
-        let z = verdict-point (x .known) r t (shown c x r t) (sym e) n in
+        let z = verdict-point c (x .known) r t (shown c x r t) (sym e) n in
         let g = more proper x y Q R up vp f in
-        shown-at y R vp r t h b ∙ verdict-of-point (y .known) r t (point-more (c .sizes) (x .known) (y .known) g t (z .0))
+        shown-at y R vp r t h b ∙ verdict-of-point c (y .known) r t (point-more (c .sizes) (x .known) (y .known) g t (z .0))
         ∙ more-code (knows-more (world (c .sizes) (x .known)) (world (c .sizes) (y .known)) (world-more (c .sizes) (x .known) (y .known) (vp .exact .sound) g) (formula-at c) (rule-line c r) t) (λ q. n (sym (z .1) ∙ q))
         ∙ z .1
 
@@ -217,11 +221,11 @@ module _ (c : Policy) where
 
       same-numbers : x .known .numbers ≡ y .known .numbers
       unfolding number
-      same-numbers = ext-getD none (x .known .numbers) (y .known .numbers) (up .sized .numbers ∙ sym (vp .sized .numbers)) at
+      same-numbers = ext-getD none (x .known .numbers) (y .known .numbers) (up .sized .sheets .numbers ∙ sym (vp .sized .sheets .numbers)) at
         where
           at : (i : ℕ) → i < length (x .known .numbers) → getD (x .known .numbers) i none ≡ getD (y .known .numbers) i none
           at i h =
-              let b : i < c .sizes .components * suc (c .sizes .minutes) = rw (up .sized .numbers) at h in
+              let b : i < c .sizes .components * suc (c .sizes .minutes) = rw (up .sized .sheets .numbers) at h in
               let e = grid-at (suc (c .sizes .minutes)) i in
               ap (λ (j : ℕ). getD (x .known .numbers) j none) (sym e)
               ∙ same-number (i / suc (c .sizes .minutes)) (i % suc (c .sizes .minutes)) (row-in (c .sizes .components) (suc (c .sizes .minutes)) i b (omega arith)) (omega (arith, place-in (suc (c .sizes .minutes)) i (omega arith)))
@@ -236,7 +240,7 @@ module _ (c : Policy) where
       same-odd t h = bits-same 32 _ _ (up .exact .words (2 * t + 1)) (vp .exact .words (2 * t + 1)) (λ i l. same-valued i t l h)
 
       same-facts : x .known .facts ≡ y .known .facts
-      same-facts = ext-getD 0 (x .known .facts) (y .known .facts) (up .sized .facts ∙ sym (vp .sized .facts)) (λ i h. at i (rw (up .sized .facts) at h) (ℕ-discrete (i % 2) 0))
+      same-facts = ext-getD 0 (x .known .facts) (y .known .facts) (up .sized .sheets .facts ∙ sym (vp .sized .sheets .facts)) (λ i h. at i (rw (up .sized .sheets .facts) at h) (ℕ-discrete (i % 2) 0))
         where
           at : (i : ℕ) → i < 2 * c .sizes .minutes → Dec (i % 2 ≡ 0) → getD (x .known .facts) i 0 ≡ getD (y .known .facts) i 0
           at i b (yes d) =
@@ -249,5 +253,5 @@ module _ (c : Policy) where
       pub same-state : x ≡ y
       same-state =
           is-over x Q up
-          ∙ ap₂ (λ (a b : List ℕ). over c (record { numbers = a; facts = b })) same-numbers same-facts
+          ∙ ap₂ (λ (a b : List ℕ). over c o (record { numbers = a; facts = b })) same-numbers same-facts
           ∙ sym (is-over y R vp)

@@ -12,3 +12,4 @@ pub mod Small
 pub mod Past
 pub mod Writers
 pub mod Points
+pub mod Swaps

@@ -21,6 +21,7 @@ use Rattle.knowledge.specs.Trace.{Trace, made, Admits-all, time-point}
 use Rattle.knowledge.specs.Knowledge.{follow, steady, level, full, word-sound, words-agree, noted, valued, number, is-point, is-none, sound, fresh, stored, free, admits}
 use Rattle.valuation.specs.Sheets.{valuation-of, verdicts-of, standing}
 use Rattle.monitor.specs.declared.Answer.the-variants.{Done}
+use Rattle.origin.specs.Origin.{origin-of, opened-under}
 use Rattle.monitor.specs.State.{State, sizes-fit, opened, open-state, receive, Receive, run-calls, after, accepted-from, accepted}
 use Rattle.monitor.specs.Demands.{sizes-of, shown, rule-line, Plain, kept, broken}
 use Rattle.demands.specs.Proved.{opens}
@@ -50,18 +51,18 @@ pub record Past-the-last-minute (y : State) : Type 0 where
 
 -- the slip says: station 0, its first observation at minute 3, mark 0 false
 said-numbers : (late : Bool) (p n : ℕ) → Fixes-number (meaning-of false-at-3 .event) p n → made (sizes-of U) (shift late) (meaning-of false-at-3 .component) p ≡ n
-unfolding digit below expanded bit since until deep reading line-length fields-at keeps-kind good-line meaning formula-of subformula-of subformula-at heading-checks offset line-checks lines-checks lines-up-to subformulas-of rule-lines rules-up-to closing-checks policy-checks policy-answer policy-of component-of minute-of number-of named-of packed-of length-of fields-of good-alive good-observation all-written good-fields message-answer event-in meaning-of noted valued number is-point is-none sound fresh stored free admits valuation-of verdicts-of standing sizes-fit opened receive follow steady level full word-sound words-agree
+unfolding digit below expanded bit since until deep reading line-length fields-at keeps-kind good-line meaning formula-of subformula-of subformula-at heading-checks offset line-checks lines-checks lines-up-to subformulas-of rule-lines rules-up-to closing-checks policy-checks policy-answer policy-of component-of minute-of number-of named-of packed-of length-of fields-of good-alive good-observation all-written good-fields message-answer event-in meaning-of noted valued number is-point is-none sound fresh stored free admits valuation-of verdicts-of standing sizes-fit opened opened-under receive follow steady level full word-sound words-agree
 said-numbers late p n (inl q) = rw (q .0, q .1) refl
 said-numbers late p n (inr q) = rw (q .0, q .1) refl
 
 said-facts : (late : Bool) (i t : ℕ) (b : Bool) → Fixes-fact (meaning-of false-at-3 .event) i t b → shift late .value i t ≡ b
-unfolding digit below expanded bit since until deep reading line-length fields-at keeps-kind good-line meaning formula-of subformula-of subformula-at heading-checks offset line-checks lines-checks lines-up-to subformulas-of rule-lines rules-up-to closing-checks policy-checks policy-answer policy-of component-of minute-of number-of named-of packed-of length-of fields-of good-alive good-observation all-written good-fields message-answer event-in meaning-of noted valued number is-point is-none sound fresh stored free admits valuation-of verdicts-of standing sizes-fit opened receive follow steady level full word-sound words-agree
+unfolding digit below expanded bit since until deep reading line-length fields-at keeps-kind good-line meaning formula-of subformula-of subformula-at heading-checks offset line-checks lines-checks lines-up-to subformulas-of rule-lines rules-up-to closing-checks policy-checks policy-answer policy-of component-of minute-of number-of named-of packed-of length-of fields-of good-alive good-observation all-written good-fields message-answer event-in meaning-of noted valued number is-point is-none sound fresh stored free admits valuation-of verdicts-of standing sizes-fit opened opened-under receive follow steady level full word-sound words-agree
 said-facts late i t b q = rw (q .0, q .2) (sym (bit-of-zero i))
 
 pub past-the-last-minute : (y : State) → open-state U y .answer ≡ Done → Past-the-last-minute y
-unfolding digit below expanded bit since until deep reading line-length fields-at keeps-kind good-line meaning formula-of subformula-of subformula-at heading-checks offset line-checks lines-checks lines-up-to subformulas-of rule-lines rules-up-to closing-checks policy-checks policy-answer policy-of component-of minute-of number-of named-of packed-of length-of fields-of good-alive good-observation all-written good-fields message-answer event-in meaning-of noted valued number is-point is-none sound fresh stored free admits valuation-of verdicts-of standing sizes-fit opened receive follow steady level full word-sound words-agree
+unfolding digit below expanded bit since until deep reading line-length fields-at keeps-kind good-line meaning formula-of subformula-of subformula-at heading-checks offset line-checks lines-checks lines-up-to subformulas-of rule-lines rules-up-to closing-checks policy-checks policy-answer policy-of component-of minute-of number-of named-of packed-of length-of fields-of good-alive good-observation all-written good-fields message-answer event-in meaning-of noted valued number is-point is-none sound fresh stored free admits valuation-of verdicts-of standing sizes-fit opened opened-under receive follow steady level full word-sound words-agree
 past-the-last-minute y d =
-    let u : open-state U y .state ≡ opened (policy-of U) = opens U y d .state in
+    let u : open-state U y .state ≡ opened (policy-of U) (origin-of U) = opens U y d .state in
     let said : accepted U y (Receive false-at-3 ∷ []) ≡ meaning-of false-at-3 ∷ [] = ap (λ (z : State). accepted-from U z (Receive false-at-3 ∷ [])) u in
     let admits-all : (late : Bool) → Admits-all (sizes-of U) (shift late) (accepted U y (Receive false-at-3 ∷ [])) =
     λ late m h. rw (List·Memᴰ·eq-of-singleton (rw said at h)) (record { numbers = said-numbers late; facts = said-facts late }) in

@@ -10,6 +10,7 @@ use Rattle.policy.specs.Laws.{accepted as policy-proper}
 use Rattle.knowledge.specs.Trace.{Trace, Admits-all, time-point}
 use Rattle.knowledge.specs.Exact.{In-all, Exact-points, exact-points}
 use Rattle.monitor.specs.declared.Answer.the-variants.{Done}
+use Rattle.origin.specs.Origin.{origin-of}
 use Rattle.monitor.specs.State.{State, open-state, run-calls, Call, after, accepted-from, accepted}
 use Rattle.monitor.specs.Demands.{sizes-of, Time-points}
 use Rattle.demands.specs.Invariant.{Kept-up}
@@ -18,17 +19,17 @@ use Rattle.demands.specs.Runs.{start}
 use Rattle.demands.specs.Proved.{opens, ranged}
 
 module _ (s : List ℕ) (x : State) (d : open-state s x .answer ≡ Done) (cs : List Call) where
-  up : Kept-up (policy-of s) (after s x cs) (λ m. List·Memᴰ m (accepted s x cs))
+  pub up : Kept-up (policy-of s) (origin-of s) (after s x cs) (λ m. List·Memᴰ m (accepted s x cs))
   up =
       let o = opens s x d in
-      subst (λ (y : State). Kept-up (policy-of s) (run-calls s y cs) (λ m. List·Memᴰ m (accepted-from s y cs))) (sym (o .state))
+      subst (λ (y : State). Kept-up (policy-of s) (origin-of s) (run-calls s y cs) (λ m. List·Memᴰ m (accepted-from s y cs))) (sym (o .state))
       (start s (o .card) (policy-proper s (o .card)) (ranged s (o .card)) cs)
 
   -- the shifts that fit the record are those that could have sent the slips accepted
   in-all : (t : ℕ) (b : Bool)
       → In-all (sizes-of s) (after s x cs .known) t b
       ↔ ((w : Trace (sizes-of s)) → Admits-all (sizes-of s) w (accepted s x cs) → time-point (sizes-of s) w t ≡ b)
-  in-all t b = (λ h w a. h w (agrees-law (policy-of s) _ _ up w .1 a), λ h w g. h w (agrees-law (policy-of s) _ _ up w .0 g))
+  in-all t b = (λ h w a. h w (agrees-law (policy-of s) (origin-of s) _ _ up w .1 a), λ h w g. h w (agrees-law (policy-of s) (origin-of s) _ _ up w .0 g))
 
   exactly : (t : ℕ) → t < sizes-of s .minutes → Exact-points (sizes-of s) (after s x cs .known) t
   exactly t h = exact-points (sizes-of s) (after s x cs .known) (up .exact .sound) t h

@@ -1,5 +1,5 @@
 -- The demands, proved: each is one inhabitant of its type in Demands.
-use Prim.Native.Nat.{ℕ, _+_, _*_, _<_}
+use Prim.Native.Nat.{ℕ, _+_, _*_, _≤_, _<_}
 use native.Mathlib.Omega.{arith}
 use mathlib.Core.Path.{_≡_, refl, sym, ap, _∙_}
 use mathlib.Core.Bool.{Bool, true, cond}
@@ -19,7 +19,7 @@ use Rattle.refusal.specs.Laws.{passing-law, passed-parts, not-accepted, same-re
 use Rattle.policy.specs.declared.Policy.{Policy}
 use Rattle.policy.specs.Format.{policy-checks, answer-of as policy-answer, policy-of}
 use Rattle.policy.specs.Proper.{Proper}
-use Rattle.policy.specs.Laws.{accepted as policy-proper}
+use Rattle.policy.specs.Laws.{accepted as policy-proper, short}
 use Rattle.policy.specs.Causes.{causes as policy-causes}
 use Rattle.message.specs.Format.{message-checks}
 use Rattle.message.specs.Fixes.{Message, Fixes-number, Fixes-fact, Fits, Well-formed, meaning-of}
@@ -29,10 +29,11 @@ use Rattle.knowledge.specs.Knowledge.{Sized as Long, Knowledge, none, noted, va
 use Rattle.knowledge.specs.Laws.{Limits, Free, free-law}
 use Rattle.knowledge.specs.Store.{Fact, number-hit, number-either, fact-hit, fact-cases}
 use Rattle.knowledge.specs.Witness.{agreed}
-use Rattle.valuation.specs.Sheets.{valuation-of, verdicts-of, standing}
+use Rattle.valuation.specs.Sheets.{verdicts-of, standing}
 use Rattle.monitor.specs.declared.Answer.{Answer}
 use Rattle.monitor.specs.declared.Answer.the-variants.{Done, Received, Refused}
-use Rattle.monitor.specs.State.{State, Outcome, unless, opened, settled, slip-checks, record-checks, opening-checks, take-checks, open-state, receive, Call, run-calls, after, Taken, accepted-from, accepted, Offered}
+use Rattle.origin.specs.Origin.{origin-of, origin-long, holds-law}
+use Rattle.monitor.specs.State.{State, Outcome, unless, opened, over, settled, slip-checks, record-checks, opening-checks, take-checks, open-state, receive, Call, run-calls, after, Taken, accepted-from, accepted, Offered}
 use Rattle.monitor.specs.Demands.{sizes-of, shown, Some-trace, Plain, reply, Passed, Demand-1, Opened, Gains, Demand-2, Sends, Same, Demand-3}
 use Rattle.monitor.specs.Laws.{knowledge-sized, fresh-number, fresh-first, fresh-facts}
 use Rattle.demands.specs.Invariant.{Kept-up, opened-up}
@@ -64,33 +65,35 @@ demand-1 = record {
 -- an opening that answers done leaves the opened state, under an accepted card
 pub record Opened-state (s : List ℕ) (o : Outcome) : Type 0 where
   pub card : policy-answer s ≡ C.Accepted
-  pub state : o .state ≡ opened (policy-of s)
+  pub state : o .state ≡ opened (policy-of s) (origin-of s)
 
 pub opens : (s : List ℕ) (x : State) → open-state s x .answer ≡ Done → Opened-state s (open-state s x)
 unfolding open-state policy-answer
 opens s x d = go (first-failed (opening-checks s x)) refl d
   where
-    go : (a : Checked) → first-failed (opening-checks s x) ≡ a → unless a x (record { answer = Done; state = opened (policy-of s) }) .answer ≡ Done
-        → Opened-state s (unless a x (record { answer = Done; state = opened (policy-of s) }))
+    go : (a : Checked) → first-failed (opening-checks s x) ≡ a → unless a x (record { answer = Done; state = opened (policy-of s) (origin-of s) }) .answer ≡ Done
+        → Opened-state s (unless a x (record { answer = Done; state = opened (policy-of s) (origin-of s) }))
     go C.Accepted e f = record {
       card = passing-law (policy-checks s) .1 (passed-parts (policy-checks s) _ (passing-law (opening-checks s x) .0 e) .0);
       state = refl;
     }
     go (C.Refused r) e f = absurd (not-accepted r (ap reply f))
 
-fresh-state : (p : Policy) → Opened p (opened p)
+fresh-state : (s : List ℕ) (p : Policy) → length s ≤ 517 → Opened s p (opened p (origin-of s))
 unfolding opened
-fresh-state p = record {
-  sized = opened-up p .sized;
+fresh-state s p h = record {
+  sized = opened-up p (origin-of s) (origin-long s h) .sized;
   first-number = fresh-first p;
   other-number = λ c q l h k. fresh-number p c q l k ∙ ap (λ (x : Bool). cond x 0 none) (ne-eqb q 0 (omega arith));
   no-fact = fresh-facts p;
   blank = λ r t. zeros (p .rules * p .sizes .minutes) (r * p .sizes .minutes + t);
-  valuation = sheets-over p (fresh (p .sizes)) .valuation;
+  valuation = sheets-over p (origin-of s) (fresh (p .sizes)) .valuation;
+  origin = refl;
+  holds = holds-law s h (origin-of s) .1 refl;
 }
 
-opened-law : (s : List ℕ) (x : State) → open-state s x .answer ≡ Done → Opened (policy-of s) (open-state s x .state)
-opened-law s x d = rw (opens s x d .state) (fresh-state (policy-of s))
+opened-law : (s : List ℕ) (x : State) → open-state s x .answer ≡ Done → Opened s (policy-of s) (open-state s x .state)
+opened-law s x d = rw (opens s x d .state) (fresh-state s (policy-of s) (short s (opens s x d .card)))
 
 -- ---- demand 2
 
@@ -100,7 +103,7 @@ module _ (s : List ℕ) (x : State) (b : List ℕ) where
   next = stored (sizes-of s) (x .known) (meaning-of b)
 
   pub record Left (o : Outcome) : Type 0 where
-    pub state : o .state ≡ record { known = next; valuation = valuation-of (policy-of s) next; verdicts = verdicts-of (policy-of s) next }
+    pub state : o .state ≡ over (policy-of s) (x .origin) next
     pub answer : o .answer ≡ Received (standing (verdicts-of (policy-of s) next))
     pub tested : admits (sizes-of s) (x .known) (meaning-of b) ≡ true
 
@@ -119,7 +122,7 @@ module _ (s : List ℕ) (x : State) (b : List ℕ) where
       go C.Accepted e t = record {
         state = refl;
         answer = refl;
-        tested = tested (passed-parts (record-checks s (x .known) (length (x .valuation)) (length (x .verdicts))) _ (passing-law (take-checks s x b) .0 e) .1);
+        tested = tested (passed-parts (record-checks s x) _ (passing-law (take-checks s x b) .0 e) .1);
       }
 
   gained : Passed s x → Well-formed (sizes-of s) b → admits (sizes-of s) (x .known) (meaning-of b) ≡ true → Gains (sizes-of s) (x .known) next (meaning-of b)
@@ -132,7 +135,7 @@ module _ (s : List ℕ) (x : State) (b : List ℕ) where
   }
     where
       long : Long (sizes-of s) (x .known)
-      long = knowledge-sized (policy-of s) x (ok .sized)
+      long = knowledge-sized (policy-of s) (ok .sized .sheets)
 
       fit : Fits (sizes-of s) (meaning-of b)
       fit = ranged s (policy-causes s .accepted .1 (ok .policy)) b w
@@ -158,9 +161,18 @@ refused Done r = (λ e. ap reply e, λ e. absurd (not-accepted r (sym e)))
 refused (Received n) r = (λ e. ap reply e, λ e. absurd (not-accepted r (sym e)))
 refused (Refused q) r = (λ e. ap reply e, λ e. ap Refused (same-refusal q r e))
 
+-- no take writes the origin
+pub kept-origin : (s : List ℕ) (x : State) (b : List ℕ) → receive s x b .state .origin ≡ x .origin
+unfolding receive
+kept-origin s x b = go (first-failed (take-checks s x b))
+  where
+    go : (a : Checked) → unless a x (settled (policy-of s) x (meaning-of b)) .state .origin ≡ x .origin
+    go C.Accepted = refl
+    go (C.Refused r) = refl
+
 pub demand-2 : Demand-2
 demand-2 = record {
-  sheets = λ s x b t. rw (left s x b t .state) (sheets-over (policy-of s) (next s x b));
+  sheets = λ s x b t. rw (left s x b t .state) (sheets-over (policy-of s) (x .origin) (next s x b));
   gains = λ s x b t.
       let r = demand-1 .take s x b .taken .0 t in
       let l = left s x b t in
@@ -168,6 +180,7 @@ demand-2 = record {
   total = λ s x b t.
       let l = left s x b t in
       l .answer ∙ ap (λ (y : State). Received (standing (y .verdicts))) (sym (l .state));
+  origin = kept-origin;
   conflict = conflict;
   opening = λ s x d. opened-law s x d;
   fits = λ z k h. agreed z k h;
@@ -184,10 +197,10 @@ demand-2 = record {
 -- ---- demand 3
 
 -- the state after the takes of a list, and what they accepted, from the opened state on
-after-opened : (s : List ℕ) (x : State) → open-state s x .state ≡ opened (policy-of s) → (cs : List Call) → after s x cs ≡ run-calls s (opened (policy-of s)) cs
+after-opened : (s : List ℕ) (x : State) → open-state s x .state ≡ opened (policy-of s) (origin-of s) → (cs : List Call) → after s x cs ≡ run-calls s (opened (policy-of s) (origin-of s)) cs
 after-opened s x e cs = ap (λ (y : State). run-calls s y cs) e
 
-accepted-opened : (s : List ℕ) (x : State) → open-state s x .state ≡ opened (policy-of s) → (cs : List Call) → accepted s x cs ≡ accepted-from s (opened (policy-of s)) cs
+accepted-opened : (s : List ℕ) (x : State) → open-state s x .state ≡ opened (policy-of s) (origin-of s) → (cs : List Call) → accepted s x cs ≡ accepted-from s (opened (policy-of s) (origin-of s)) cs
 accepted-opened s x e cs = ap (λ (y : State). accepted-from s y cs) e
 
 module _ (s : List ℕ) (card : policy-answer s ≡ C.Accepted) where
@@ -197,7 +210,7 @@ module _ (s : List ℕ) (card : policy-answer s ≡ C.Accepted) where
   abbrev fitting : (b : List ℕ) → Well-formed (sizes-of s) b → Fits (sizes-of s) (meaning-of b)
   fitting = ranged s card
 
-  module _ (x : State) (d : open-state s x .state ≡ opened (policy-of s)) where
+  module _ (x : State) (d : open-state s x .state ≡ opened (policy-of s) (origin-of s)) where
     accepts : (cs : List Call) (b : List ℕ)
         → Taken (receive s (after s x cs) b .answer)
         ↔ (Well-formed (sizes-of s) b × ((w : Trace (sizes-of s)) × Admits-all (sizes-of s) w (accepted s x cs) × Admits (sizes-of s) w (meaning-of b)))
@@ -214,16 +227,16 @@ module _ (s : List ℕ) (card : policy-answer s ≡ C.Accepted) where
         rw (after-opened s x d cs) (truth s card proper fitting cs r t h b (rw (after-opened s x d cs) at n) w (rw (accepted-opened s x d cs) at a))
 
   -- the members of one list, as those of the other
-  alike : (x y : State) → open-state s x .state ≡ opened (policy-of s) → open-state s y .state ≡ opened (policy-of s) → (xs ys : List Call)
+  alike : (x y : State) → open-state s x .state ≡ opened (policy-of s) (origin-of s) → open-state s y .state ≡ opened (policy-of s) (origin-of s) → (xs ys : List Call)
       → ((b : List ℕ) → Well-formed (sizes-of s) b → Offered b xs ↔ Offered b ys)
       → (w : Trace (sizes-of s)) → ((b : List ℕ) → Offered b xs → Well-formed (sizes-of s) b → Admits (sizes-of s) w (meaning-of b)) → Same s x y xs ys
   alike x y d e xs ys f w a = record {
     left = λ us b vs q. rw (after-opened s x d us) (all-taken s card proper fitting w xs here us b vs q);
     right = λ us b vs q. rw (after-opened s y e us) (all-taken s card proper fitting w ys there us b vs q);
-    state = after-opened s x d xs ∙ same-state (policy-of s) proper (from-open s card proper fitting xs) (from-open s card proper fitting ys) _ _ ups vps to from ∙ sym (after-opened s y e ys);
+    state = after-opened s x d xs ∙ same-state (policy-of s) (origin-of s) proper (from-open s card proper fitting xs) (from-open s card proper fitting ys) _ _ ups vps to from ∙ sym (after-opened s y e ys);
     sized = rw (after-opened s x d xs) (ups .sized);
     exact = rw (after-opened s x d xs) (ups .exact);
-    sheets = rw (after-opened s x d xs) (rw (is-over (policy-of s) (from-open s card proper fitting xs) _ ups) (sheets-over (policy-of s) (from-open s card proper fitting xs .known)));
+    sheets = rw (after-opened s x d xs) (rw (is-over (policy-of s) (origin-of s) (from-open s card proper fitting xs) _ ups) (sheets-over (policy-of s) (origin-of s) (from-open s card proper fitting xs .known)));
   }
     where
       to : (m : Message) → Sends (sizes-of s) xs m → Sends (sizes-of s) ys m
@@ -238,10 +251,10 @@ module _ (s : List ℕ) (card : policy-answer s ≡ C.Accepted) where
       there : (m : Message) → Sends (sizes-of s) ys m → Admits (sizes-of s) w m
       there m z = here m (from m z)
 
-      ups : Kept-up (policy-of s) (from-open s card proper fitting xs) (Sends (sizes-of s) xs)
+      ups : Kept-up (policy-of s) (origin-of s) (from-open s card proper fitting xs) (Sends (sizes-of s) xs)
       ups = all-up s card proper fitting w xs here
 
-      vps : Kept-up (policy-of s) (from-open s card proper fitting ys) (Sends (sizes-of s) ys)
+      vps : Kept-up (policy-of s) (origin-of s) (from-open s card proper fitting ys) (Sends (sizes-of s) ys)
       vps = all-up s card proper fitting w ys there
 
 pub demand-3 : Demand-3

@@ -18,6 +18,7 @@ use Rattle.refusal.specs.Checks.{check, first-failed, Passed as All-passed, non
 use Rattle.refusal.specs.Laws.{passing-law, passed-both, passed-parts, not-accepted}
 use Rattle.policy.specs.Format.{answer-of as policy-answer, policy-of}
 use Rattle.policy.specs.Proper.{Proper, formula-at}
+use Rattle.policy.specs.Laws.{short}
 use Rattle.message.specs.Format.{message-checks, answer-of as message-answer}
 use Rattle.message.specs.Fixes.{Message, Fits, Well-formed, meaning-of}
 use Rattle.knowledge.specs.Trace.{Trace, Admits, Admits-all, time-point, trace-world}
@@ -28,6 +29,7 @@ use Rattle.knowledge.specs.Worlds.{point-so, world-so}
 use Rattle.valuation.specs.Sheets.{value}
 use Rattle.monitor.specs.declared.Answer.{Answer}
 use Rattle.monitor.specs.declared.Answer.the-variants.{Done, Received, Refused}
+use Rattle.origin.specs.Origin.{origin-of, origin-long}
 use Rattle.monitor.specs.State.{State, Outcome, unless, Sized, opened, settled, slip-checks, take-message, receive, Call, Receive, step, run-calls, Taken, took, accepted-by, accepted-from, Offers, by-take, Offered}
 use Rattle.monitor.specs.Demands.{shown, rule-line, sizes-of, Some-trace, Plain, kept, broken, Sends}
 use Rattle.monitor.specs.Laws.{knowledge-sized, plain-take}
@@ -75,9 +77,9 @@ module _ (s : List ℕ) (passed : policy-answer s ≡ C.Accepted) (proper : Prop
 
   -- ---- what each kind of call keeps up, and what it accepts
 
-  receive-up : (x : State) (Q : Message → Type 0) → Kept-up (policy-of s) x Q → (b : List ℕ)
-      → Kept-up (policy-of s) (receive s x b .state) (λ y. Q y ⊎ List·Memᴰ y (took (receive s x b .answer) b))
-  receive-up x Q up b = rw (plain-take s x passed (up .sized) (up .exact .sound) b) (go (first-failed (slip-checks (policy-of s) x b)) refl)
+  receive-up : (x : State) (Q : Message → Type 0) → Kept-up (policy-of s) (origin-of s) x Q → (b : List ℕ)
+      → Kept-up (policy-of s) (origin-of s) (receive s x b .state) (λ y. Q y ⊎ List·Memᴰ y (took (receive s x b .answer) b))
+  receive-up x Q up b = rw (plain-take s x passed (up .sized) (up .origin) (up .exact .sound) b) (go (first-failed (slip-checks (policy-of s) x b)) refl)
     where
       out : Checked → Outcome
       out a = unless a x (settled (policy-of s) x (meaning-of b))
@@ -90,20 +92,20 @@ module _ (s : List ℕ) (passed : policy-answer s ≡ C.Accepted) (proper : Prop
       one y (inl q) = inl q
       one y (inr h) = inr (List·Memᴰ·eq-of-singleton h)
 
-      go : (a : Checked) → first-failed (slip-checks (policy-of s) x b) ≡ a → Kept-up (policy-of s) (out a .state) (λ y. Q y ⊎ List·Memᴰ y (took (out a .answer) b))
+      go : (a : Checked) → first-failed (slip-checks (policy-of s) x b) ≡ a → Kept-up (policy-of s) (origin-of s) (out a .state) (λ y. Q y ⊎ List·Memᴰ y (took (out a .answer) b))
       go C.Accepted e =
           let q = passed-slip x b .0 e in
-          relabel (policy-of s) single one (next-up (policy-of s) proper x Q up (meaning-of b) (ranged b (q .0)) (q .1))
-      go (C.Refused r) e = relabel (policy-of s) (λ y q. inl q) (none-more Q) up
+          relabel (policy-of s) (origin-of s) single one (next-up (policy-of s) (origin-of s) proper x Q up (meaning-of b) (ranged b (q .0)) (q .1))
+      go (C.Refused r) e = relabel (policy-of s) (origin-of s) (λ y q. inl q) (none-more Q) up
 
-  pub step-up : (x : State) (Q : Message → Type 0) → Kept-up (policy-of s) x Q → (c : Call)
-      → Kept-up (policy-of s) (step s x c .state) (λ y. Q y ⊎ List·Memᴰ y (accepted-by s x c))
+  pub step-up : (x : State) (Q : Message → Type 0) → Kept-up (policy-of s) (origin-of s) x Q → (c : Call)
+      → Kept-up (policy-of s) (origin-of s) (step s x c .state) (λ y. Q y ⊎ List·Memᴰ y (accepted-by s x c))
   step-up x Q up (Receive b) = receive-up x Q up b
 
-  pub run-up : (cs : List Call) (x : State) (Q : Message → Type 0) → Kept-up (policy-of s) x Q
-      → Kept-up (policy-of s) (run-calls s x cs) (λ y. Q y ⊎ List·Memᴰ y (accepted-from s x cs))
-  run-up [] x Q up = relabel (policy-of s) (λ y q. inl q) (none-more Q) up
-  run-up (c ∷ cs) x Q up = relabel (policy-of s) to from (run-up cs (step s x c .state) _ (step-up x Q up c))
+  pub run-up : (cs : List Call) (x : State) (Q : Message → Type 0) → Kept-up (policy-of s) (origin-of s) x Q
+      → Kept-up (policy-of s) (origin-of s) (run-calls s x cs) (λ y. Q y ⊎ List·Memᴰ y (accepted-from s x cs))
+  run-up [] x Q up = relabel (policy-of s) (origin-of s) (λ y q. inl q) (none-more Q) up
+  run-up (c ∷ cs) x Q up = relabel (policy-of s) (origin-of s) to from (run-up cs (step s x c .state) _ (step-up x Q up c))
     where
       first : List Message
       first = accepted-by s x c
@@ -132,33 +134,36 @@ module _ (s : List ℕ) (passed : policy-answer s ≡ C.Accepted) (proper : Prop
   taken-law x b z k = go (first-failed (slip-checks (policy-of s) x b)) refl
     where
       law : (w : Well-formed (sizes-of s) b) → (admits (sizes-of s) (x .known) (meaning-of b) ≡ true) ↔ Some-trace (sizes-of s) (x .known) (meaning-of b)
-      law w = admits-law (sizes-of s) limits (x .known) (meaning-of b) (knowledge-sized (policy-of s) x z) (ranged b w) k
+      law w = admits-law (sizes-of s) limits (x .known) (meaning-of b) (knowledge-sized (policy-of s) (z .sheets)) (ranged b w) k
 
       go : (a : Checked) → first-failed (slip-checks (policy-of s) x b) ≡ a
           → Taken (unless a x (settled (policy-of s) x (meaning-of b)) .answer) ↔ (Well-formed (sizes-of s) b × Some-trace (sizes-of s) (x .known) (meaning-of b))
       go C.Accepted e = let q = passed-slip x b .0 e in (λ u. (q .0, law (q .0) .0 (q .1)), λ h. tt)
       go (C.Refused r) e = (λ u. absurd u, λ h. absurd (not-accepted r (sym e ∙ passed-slip x b .1 (h .0, law (h .0) .1 (h .1)))))
 
-  pub accept-law : (x : State) (Q : Message → Type 0) → Kept-up (policy-of s) x Q → (b : List ℕ)
+  pub accept-law : (x : State) (Q : Message → Type 0) → Kept-up (policy-of s) (origin-of s) x Q → (b : List ℕ)
       → Taken (receive s x b .answer)
       ↔ (Well-formed (sizes-of s) b × ((w : Trace (sizes-of s)) × ((y : Message) → Q y → Admits (sizes-of s) w y) × Admits (sizes-of s) w (meaning-of b)))
   accept-law x Q up b =
       let law = taken-law x b (up .sized) (up .exact .sound) in
-      rw (plain-take s x passed (up .sized) (up .exact .sound) b) (
-        λ u. let r = law .0 u in (r .0, (r .1 .0, agrees-law (policy-of s) x Q up (r .1 .0) .0 (r .1 .1), r .1 .2)),
-        λ r. law .1 (r .0, (r .1 .0, agrees-law (policy-of s) x Q up (r .1 .0) .1 (r .1 .1), r .1 .2)),
+      rw (plain-take s x passed (up .sized) (up .origin) (up .exact .sound) b) (
+        λ u. let r = law .0 u in (r .0, (r .1 .0, agrees-law (policy-of s) (origin-of s) x Q up (r .1 .0) .0 (r .1 .1), r .1 .2)),
+        λ r. law .1 (r .0, (r .1 .0, agrees-law (policy-of s) (origin-of s) x Q up (r .1 .0) .1 (r .1 .1), r .1 .2)),
       )
 
   -- ---- from an opening on
 
+  opening-up : Kept-up (policy-of s) (origin-of s) (opened (policy-of s) (origin-of s)) (λ m. ⊥)
+  opening-up = opened-up (policy-of s) (origin-of s) (origin-long s (short s passed))
+
   abbrev pub from-open : List Call → State
-  from-open cs = run-calls s (opened (policy-of s)) cs
+  from-open cs = run-calls s (opened (policy-of s) (origin-of s)) cs
 
   abbrev pub taken : List Call → List Message
-  taken cs = accepted-from s (opened (policy-of s)) cs
+  taken cs = accepted-from s (opened (policy-of s) (origin-of s)) cs
 
-  pub start : (cs : List Call) → Kept-up (policy-of s) (from-open cs) (λ y. List·Memᴰ y (taken cs))
-  start cs = relabel (policy-of s) drop (λ y h. inr h) (run-up cs (opened (policy-of s)) (λ m. ⊥) (opened-up (policy-of s)))
+  pub start : (cs : List Call) → Kept-up (policy-of s) (origin-of s) (from-open cs) (λ y. List·Memᴰ y (taken cs))
+  start cs = relabel (policy-of s) (origin-of s) drop (λ y h. inr h) (run-up cs (opened (policy-of s) (origin-of s)) (λ m. ⊥) opening-up)
     where
       drop : (y : Message) → ⊥ ⊎ List·Memᴰ y (taken cs) → List·Memᴰ y (taken cs)
       drop y (inl z) = absurd z
@@ -167,8 +172,8 @@ module _ (s : List ℕ) (passed : policy-answer s ≡ C.Accepted) (proper : Prop
   pub stand : (cs ds : List Call) (r t : ℕ) → r < policy-of s .rules → t < sizes-of s .minutes
       → shown (policy-of s) (from-open cs) r t ≢ 0 → shown (policy-of s) (from-open (cs ++ ds)) r t ≡ shown (policy-of s) (from-open cs) r t
   stand cs ds r t h b n =
-      rw (run-append s cs ds (opened (policy-of s)))
-      (stands (policy-of s) proper (from-open cs) (run-calls s (from-open cs) ds) _ _ (start cs)
+      rw (run-append s cs ds (opened (policy-of s) (origin-of s)))
+      (stands (policy-of s) (origin-of s) proper (from-open cs) (run-calls s (from-open cs) ds) _ _ (start cs)
       (run-up ds (from-open cs) _ (start cs)) (λ m q. inl q) r t h b n)
 
   pub truth : (cs : List Call) (r t : ℕ) → r < policy-of s .rules → t < sizes-of s .minutes → shown (policy-of s) (from-open cs) r t ≢ 0
@@ -179,10 +184,10 @@ module _ (s : List ℕ) (passed : policy-answer s ≡ C.Accepted) (proper : Prop
       k = from-open cs .known
 
       z : (is-point (sizes-of s) (from-open cs .known) t ≡ true) × (code-of (value (policy-of s) (from-open cs .known) (rule-line (policy-of s) r) t) ≡ shown (policy-of s) (from-open cs) r t)
-      z = verdict-point (policy-of s) (from-open cs .known) r t (shown (policy-of s) (from-open cs) r t) (sym (shown-at (policy-of s) (from-open cs) _ (start cs) r t h b)) n
+      z = verdict-point (policy-of s) (from-open cs .known) r t (shown (policy-of s) (from-open cs) r t) (sym (shown-at (policy-of s) (origin-of s) (from-open cs) _ (start cs) r t h b)) n
 
       g : Agrees (sizes-of s) w (from-open cs .known)
-      g = agrees-law (policy-of s) (from-open cs) _ (start cs) w .1 a
+      g = agrees-law (policy-of s) (origin-of s) (from-open cs) _ (start cs) w .1 a
 
       is : time-point (sizes-of s) w t ≡ true
       is = point-so (sizes-of s) w (from-open cs .known) g t (point-law (sizes-of s) (from-open cs .known) t .0 (z .0))
@@ -191,7 +196,7 @@ module _ (s : List ℕ) (passed : policy-answer s ≡ C.Accepted) (proper : Prop
       plain =
           plain-of (policy-of s) w r t (value (policy-of s) (from-open cs .known) (rule-line (policy-of s) r) t)
           (reading two (trace-world (sizes-of s) w) (formula-at (policy-of s)) (rule-line (policy-of s) r) t)
-          (reading-decides (world (sizes-of s) (from-open cs .known)) (trace-world (sizes-of s) w) (world-so (sizes-of s) w (from-open cs .known) g (marked (policy-of s) (from-open cs) _ (start cs))) (formula-at (policy-of s)) (rule-line (policy-of s) r) t)
+          (reading-decides (world (sizes-of s) (from-open cs .known)) (trace-world (sizes-of s) w) (world-so (sizes-of s) w (from-open cs .known) g (marked (policy-of s) (origin-of s) (from-open cs) _ (start cs))) (formula-at (policy-of s)) (rule-line (policy-of s) r) t)
           (λ q. n (sym (z .1) ∙ q)) is
           (textbook (time-point (sizes-of s) w) (w .value) (formula-at (policy-of s)) (rule-line (policy-of s) r) t)
 
@@ -214,7 +219,7 @@ module _ (s : List ℕ) (passed : policy-answer s ≡ C.Accepted) (proper : Prop
       go C.Accepted u = List·Memᴰ·head refl
       go (C.Refused r) u = absurd u
 
-  module _ (x : State) (Q : Message → Type 0) (up : Kept-up (policy-of s) x Q) where
+  module _ (x : State) (Q : Message → Type 0) (up : Kept-up (policy-of s) (origin-of s) x Q) where
     -- for each kind of call: what it accepted, it was offered, well-formed
     call-sent : (c : Call) (y : Message) → List·Memᴰ y (accepted-by s x c) → (b : List ℕ) × Offers c b × Well-formed (sizes-of s) b × (meaning-of b ≡ y)
     call-sent (Receive b) y h = let r = took-sent x b (λ u. accept-law x Q up b .0 u .0) y h in (b, by-take b, r .0, r .1)
@@ -224,14 +229,14 @@ module _ (s : List ℕ) (passed : policy-answer s ≡ C.Accepted) (proper : Prop
         → Admits (sizes-of s) w (meaning-of b) → List·Memᴰ (meaning-of b) (accepted-by s x c)
     call-takes w a (Receive d) b (by-take c) e m =
         let u : Taken (receive s x c .answer) = accept-law x Q up c .1 (e, (w, a, m)) in
-        let p = plain-take s x passed (up .sized) (up .exact .sound) c in
+        let p = plain-take s x passed (up .sized) (up .origin) (up .exact .sound) c in
         rw p (took-it x c (rw p at u))
 
   offered-later : {b : List ℕ} {c : Call} {cs : List Call} → Offered b cs → Offered b (c ∷ cs)
   offered-later o = record { call = o .call; is-call = List·Memᴰ·tail (o .is-call); offers = o .offers }
 
   -- every accepted message is that of a well-formed slip of the list
-  pub accepted-sent : (cs : List Call) (x : State) (Q : Message → Type 0) → Kept-up (policy-of s) x Q → (y : Message) → List·Memᴰ y (accepted-from s x cs) → Sends (sizes-of s) cs y
+  pub accepted-sent : (cs : List Call) (x : State) (Q : Message → Type 0) → Kept-up (policy-of s) (origin-of s) x Q → (y : Message) → List·Memᴰ y (accepted-from s x cs) → Sends (sizes-of s) cs y
   accepted-sent [] x Q up y h = absurd (List·Memᴰ·not-nil h)
   accepted-sent (c ∷ cs) x Q up y h =
       go (λ k. accepted-sent cs (step s x c .state) _ (step-up x Q up c) y k) (List·Memᴰ·append-cases (accepted-by s x c) h)
@@ -242,7 +247,7 @@ module _ (s : List ℕ) (passed : policy-answer s ≡ C.Accepted) (proper : Prop
       go ih (inr k) = let r = ih k in (r .0, offered-later (r .1), r .2, r .3)
 
   -- where a trace admits all of them, all are accepted
-  all-sent : (w : Trace (sizes-of s)) (cs : List Call) (x : State) (Q : Message → Type 0) → Kept-up (policy-of s) x Q → ((y : Message) → Q y → Admits (sizes-of s) w y)
+  all-sent : (w : Trace (sizes-of s)) (cs : List Call) (x : State) (Q : Message → Type 0) → Kept-up (policy-of s) (origin-of s) x Q → ((y : Message) → Q y → Admits (sizes-of s) w y)
       → ((y : Message) → Sends (sizes-of s) cs y → Admits (sizes-of s) w y) → (y : Message) → Sends (sizes-of s) cs y → List·Memᴰ y (accepted-from s x cs)
   all-sent w [] x Q up a f y z = absurd (List·Memᴰ·not-nil (z .1 .is-call))
   all-sent w (c ∷ cs) x Q up a f y z =
@@ -265,10 +270,10 @@ module _ (s : List ℕ) (passed : policy-answer s ≡ C.Accepted) (proper : Prop
           Memᴰ·append-left (accepted-from s (step s x c .state) cs) i
 
   module _ (w : Trace (sizes-of s)) (xs : List Call) (a : (m : Message) → Sends (sizes-of s) xs m → Admits (sizes-of s) w m) where
-    pub all-up : Kept-up (policy-of s) (from-open xs) (Sends (sizes-of s) xs)
+    pub all-up : Kept-up (policy-of s) (origin-of s) (from-open xs) (Sends (sizes-of s) xs)
     all-up =
-        relabel (policy-of s) (accepted-sent xs (opened (policy-of s)) (λ m. ⊥) (opened-up (policy-of s)))
-        (all-sent w xs (opened (policy-of s)) (λ m. ⊥) (opened-up (policy-of s)) (λ y q. absurd q) a) (start xs)
+        relabel (policy-of s) (origin-of s) (accepted-sent xs (opened (policy-of s) (origin-of s)) (λ m. ⊥) opening-up)
+        (all-sent w xs (opened (policy-of s) (origin-of s)) (λ m. ⊥) opening-up (λ y q. absurd q) a) (start xs)
 
     pub all-taken : (us : List Call) (b : List ℕ) (vs : List Call) → xs ≡ us ++ (Receive b ∷ vs) → Taken (receive s (from-open us) b .answer) ↔ Well-formed (sizes-of s) b
     all-taken us b vs e = (
@@ -286,5 +291,5 @@ module _ (s : List ℕ) (passed : policy-answer s ≡ C.Accepted) (proper : Prop
       where
         before : (y : Message) → List·Memᴰ y (taken us) → Admits (sizes-of s) w y
         before y h =
-            let r = accepted-sent us (opened (policy-of s)) (λ m. ⊥) (opened-up (policy-of s)) y h in
+            let r = accepted-sent us (opened (policy-of s) (origin-of s)) (λ m. ⊥) opening-up y h in
             a y (r .0, record { call = r .1 .call; is-call = rw e (Memᴰ·append-left (Receive b ∷ vs) (r .1 .is-call)); offers = r .1 .offers }, r .2, r .3)

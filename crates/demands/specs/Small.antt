@@ -3,10 +3,10 @@
 use Prim.Native.Nat.{ℕ}
 use mathlib.Core.Path.{_≡_, refl, sym, ap, _∙_}
 use mathlib.Core.List.{List, [], _∷_, _++_, map}
-use lib.ListN.{length}
+use lib.ListN.{length, replicate, set}
 use Rattle.bits.specs.Digits.{digit, below, expanded}
 use Rattle.bits.specs.Bits.{bit}
-use Rattle.refusal.specs.declared.Refusal.the-variants.{TruncatedMessage, BadMessage, Conflict}
+use Rattle.refusal.specs.declared.Refusal.the-variants.{BufferSize, CorruptKnowledge, TruncatedMessage, BadMessage, Conflict, OtherPolicy}
 use Rattle.mtl.specs.Reading.{since, until, deep, reading}
 use Rattle.policy.specs.Format.{line-length, fields-at, keeps-kind, good-line, meaning, formula-of, subformula-of, subformula-at, heading-checks, offset, line-checks, lines-checks, lines-up-to, subformulas-of, rule-lines, rules-up-to, closing-checks, policy-checks, answer-of as policy-answer, policy-of}
 use Rattle.message.specs.Format.{component-of, minute-of, number-of, named-of, packed-of, length-of, fields-of, good-alive, good-observation, all-written, good-fields, answer-of as message-answer, event-in, used-of, messages-of}
@@ -18,6 +18,7 @@ use Rattle.monitor.specs.declared.Answer.the-variants.{Done, Received, Refused}
 use Rattle.monitor.specs.declared.PacketAnswer.{PacketAnswer}
 use Rattle.monitor.specs.declared.Stop.{Stop}
 use Rattle.monitor.specs.declared.Stop.the-variants as P
+use Rattle.origin.specs.Origin.{Origin, stamped, origin-of, opened-under}
 use Rattle.monitor.specs.State.{State, lent, sizes-fit, opened, open-state, receive, Packet-outcome, receive-packet, Receive, run-calls, after}
 use Rattle.demands.specs.Proved.{opens}
 
@@ -141,32 +142,73 @@ pub record Lost-slips (x : State) : Type 0 where
   pub one-open : sheet T x (one-short ∷ []) ≡ row 0 0 1 0
   pub then-known : sheet T x (one-short ∷ (0x12 ∷ 0x01 ∷ 0x00 ∷ []) ∷ []) ≡ row 0 1 1 0
 
--- what is assumed of x and y below is so for any buffers of the cards' sizes: both openings are done
-pub opens-sized : (n f v d : List ℕ) → length n ≡ 5 → length f ≡ 8 → length v ≡ 12 → length d ≡ 4
-    → (open-state K (lent n f v d) .answer ≡ Done) × (open-state U (lent n f v d) .answer ≡ Done)
-unfolding open-state line-length fields-at keeps-kind good-line meaning formula-of subformula-of subformula-at heading-checks offset line-checks lines-checks lines-up-to subformulas-of rule-lines rules-up-to closing-checks policy-checks policy-answer policy-of sizes-fit
-opens-sized n f v d a b c e = (rw (a, b, c, e) refl, rw (a, b, c, e) refl)
+-- 02, request 5: K and U have the same sizes, so that a record opened under one of them can be lent with the other. The state x with another origin, and
+-- with another first count
+abbrev restamped : State → Origin → State
+restamped x o = record { known = x .known; valuation = x .valuation; verdicts = x .verdicts; origin = o }
 
-pub opens-lost : (n f v d : List ℕ) → length n ≡ 5 → length f ≡ 8 → length v ≡ 4 → length d ≡ 4 → open-state T (lent n f v d) .answer ≡ Done
+abbrev unsound : State → State
+unsound x = record { known = record { numbers = set (x .known .numbers) 0 1; facts = x .known .facts }; valuation = x .valuation; verdicts = x .verdicts; origin = x .origin }
+
+-- what opening K writes, but for one of the 517 bytes, or for the length
+abbrev byte-off : ℕ → ℕ → Origin
+byte-off i b = stamped (set (origin-of K .bytes) i b) 13
+
+abbrev length-off : ℕ → Origin
+length-off n = stamped (origin-of K .bytes) n
+
+-- x is the state right after an opening under K
+pub record Two-cards (x : State) : Type 0 where
+  -- K's 13 bytes and 504 zeros are stored, and their number
+  pub stored : x .origin ≡ stamped (K ++ replicate 504 0) 13
+  -- under K and then lent U, a take and a packet, an empty one too, are 12 and change nothing; lent K again they are taken
+  pub take-other : receive U (receive K x A .state) B ≡ record { answer = Refused OtherPolicy; state = receive K x A .state }
+  pub packet-other : receive-packet U (receive K x A .state) B ≡ record { answer = ended 0 (P.Refused OtherPolicy 0); state = receive K x A .state }
+  pub empty-other : receive-packet U (receive K x A .state) [] .answer ≡ ended 0 (P.Refused OtherPolicy 0)
+  pub take-own : receive K (receive K x A .state) B .answer ≡ Received 2
+  -- opened under U it is U's, and no longer K's
+  pub opened-anew : open-state U (receive K x A .state) .answer ≡ Done
+  pub then-own : receive U (open-state U (receive K x A .state) .state) false-at-3 .answer ≡ Received 0
+  pub then-other : receive K (open-state U (receive K x A .state) .state) A .answer ≡ Refused OtherPolicy
+  -- a byte of the card, the first behind it, and the last; a length one less, one more, and above 517
+  pub in-card : receive K (restamped x (byte-off 12 1)) A .answer ≡ Refused OtherPolicy
+  pub behind-card : receive K (restamped x (byte-off 13 1)) A .answer ≡ Refused OtherPolicy
+  pub last-byte : receive K (restamped x (byte-off 516 1)) A .answer ≡ Refused OtherPolicy
+  pub shorter : receive K (restamped x (length-off 12)) A .answer ≡ Refused OtherPolicy
+  pub longer : receive K (restamped x (length-off 14)) A .answer ≡ Refused OtherPolicy
+  pub past-all : receive K (restamped x (length-off 518)) A .answer ≡ Refused OtherPolicy
+  -- after 5: a buffer of 516 bytes; before 6: a record that is not sound
+  pub short-buffer : receive K (restamped x (stamped (replicate 516 0) 13)) A .answer ≡ Refused BufferSize
+  pub unsound-other : receive U (unsound x) A .answer ≡ Refused OtherPolicy
+  pub unsound-own : receive K (unsound x) A .answer ≡ Refused CorruptKnowledge
+
+-- what is assumed of x and y below is so for any buffers of the cards' sizes: both openings are done
+pub opens-sized : (n f v d : List ℕ) (o : Origin) → length n ≡ 5 → length f ≡ 8 → length v ≡ 12 → length d ≡ 4 → length (o .bytes) ≡ 517
+    → (open-state K (lent n f v d o) .answer ≡ Done) × (open-state U (lent n f v d o) .answer ≡ Done)
 unfolding open-state line-length fields-at keeps-kind good-line meaning formula-of subformula-of subformula-at heading-checks offset line-checks lines-checks lines-up-to subformulas-of rule-lines rules-up-to closing-checks policy-checks policy-answer policy-of sizes-fit
-opens-lost n f v d a b c e = rw (a, b, c, e) refl
+opens-sized n f v d o a b c e g = (rw (a, b, c, e, g) refl, rw (a, b, c, e, g) refl)
+
+pub opens-lost : (n f v d : List ℕ) (o : Origin) → length n ≡ 5 → length f ≡ 8 → length v ≡ 4 → length d ≡ 4 → length (o .bytes) ≡ 517
+    → open-state T (lent n f v d o) .answer ≡ Done
+unfolding open-state line-length fields-at keeps-kind good-line meaning formula-of subformula-of subformula-at heading-checks offset line-checks lines-checks lines-up-to subformulas-of rule-lines rules-up-to closing-checks policy-checks policy-answer policy-of sizes-fit
+opens-lost n f v d o a b c e g = rw (a, b, c, e, g) refl
 
 -- each case, from the opened state on
-module _ (s : List ℕ) (x : State) (e : open-state s x .state ≡ opened (policy-of s)) where
-  sheet-from : (bs : List (List ℕ)) → sheet s x bs ≡ run-calls s (opened (policy-of s)) (map Receive bs) .verdicts
+module _ (s : List ℕ) (x : State) (e : open-state s x .state ≡ opened (policy-of s) (origin-of s)) where
+  sheet-from : (bs : List (List ℕ)) → sheet s x bs ≡ run-calls s (opened (policy-of s) (origin-of s)) (map Receive bs) .verdicts
   sheet-from bs = ap (λ (y : State). run-calls s y (map Receive bs) .verdicts) e
 
-  state-from : (bs : List (List ℕ)) → after s x (map Receive bs) ≡ run-calls s (opened (policy-of s)) (map Receive bs)
+  state-from : (bs : List (List ℕ)) → after s x (map Receive bs) ≡ run-calls s (opened (policy-of s) (origin-of s)) (map Receive bs)
   state-from bs = ap (λ (y : State). run-calls s y (map Receive bs)) e
 
-  reply-from : (bs : List (List ℕ)) (b : List ℕ) → reply s x bs b ≡ receive s (run-calls s (opened (policy-of s)) (map Receive bs)) b .answer
+  reply-from : (bs : List (List ℕ)) (b : List ℕ) → reply s x bs b ≡ receive s (run-calls s (opened (policy-of s) (origin-of s)) (map Receive bs)) b .answer
   reply-from bs b = ap (λ (y : State). receive s (run-calls s y (map Receive bs)) b .answer) e
 
 pub small-shift : (x y : State) → open-state K x .answer ≡ Done → open-state U y .answer ≡ Done → Small-shift x y
-unfolding digit below expanded bit since until deep reading line-length fields-at keeps-kind good-line meaning formula-of subformula-of subformula-at heading-checks offset line-checks lines-checks lines-up-to subformulas-of rule-lines rules-up-to closing-checks policy-checks policy-answer policy-of component-of minute-of number-of named-of packed-of length-of fields-of good-alive good-observation all-written good-fields message-answer event-in meaning-of noted valued number is-point is-none sound fresh stored free admits valuation-of verdicts-of standing sizes-fit opened receive follow steady level full word-sound words-agree
+unfolding digit below expanded bit since until deep reading line-length fields-at keeps-kind good-line meaning formula-of subformula-of subformula-at heading-checks offset line-checks lines-checks lines-up-to subformulas-of rule-lines rules-up-to closing-checks policy-checks policy-answer policy-of component-of minute-of number-of named-of packed-of length-of fields-of good-alive good-observation all-written good-fields message-answer event-in meaning-of noted valued number is-point is-none sound fresh stored free admits valuation-of verdicts-of standing sizes-fit opened opened-under receive follow steady level full word-sound words-agree
 small-shift x y d e =
-    let k : open-state K x .state ≡ opened (policy-of K) = opens K x d .state in
-    let u : open-state U y .state ≡ opened (policy-of U) = opens U y e .state in
+    let k : open-state K x .state ≡ opened (policy-of K) (origin-of K) = opens K x d .state in
+    let u : open-state U y .state ≡ opened (policy-of U) (origin-of U) = opens U y e .state in
     record {
       nothing = sheet-from K x k [];
       a = sheet-from K x k (A ∷ []);
@@ -188,9 +230,9 @@ small-shift x y d e =
     }
 
 pub lost-slips : (x : State) → open-state T x .answer ≡ Done → Lost-slips x
-unfolding digit below expanded bit since until deep reading line-length fields-at keeps-kind good-line meaning formula-of subformula-of subformula-at heading-checks offset line-checks lines-checks lines-up-to subformulas-of rule-lines rules-up-to closing-checks policy-checks policy-answer policy-of component-of minute-of number-of named-of packed-of length-of fields-of good-alive good-observation all-written good-fields message-answer event-in meaning-of noted valued number is-point is-none sound fresh stored free admits valuation-of verdicts-of standing sizes-fit opened receive follow steady level full word-sound words-agree
+unfolding digit below expanded bit since until deep reading line-length fields-at keeps-kind good-line meaning formula-of subformula-of subformula-at heading-checks offset line-checks lines-checks lines-up-to subformulas-of rule-lines rules-up-to closing-checks policy-checks policy-answer policy-of component-of minute-of number-of named-of packed-of length-of fields-of good-alive good-observation all-written good-fields message-answer event-in meaning-of noted valued number is-point is-none sound fresh stored free admits valuation-of verdicts-of standing sizes-fit opened opened-under receive follow steady level full word-sound words-agree
 lost-slips x d =
-    let k : open-state T x .state ≡ opened (policy-of T) = opens T x d .state in
+    let k : open-state T x .state ≡ opened (policy-of T) (origin-of T) = opens T x d .state in
     record {
       all-three = sheet-from T x k (mixer ∷ []);
       total = reply-from T x k [] mixer;
@@ -199,23 +241,23 @@ lost-slips x d =
       then-known = sheet-from T x k (one-short ∷ (0x12 ∷ 0x01 ∷ 0x00 ∷ []) ∷ []);
     }
 
-module _ (x : State) (e : open-state K x .state ≡ opened (policy-of K)) where
-  frame-from : (b : List ℕ) → frame x b ≡ receive-packet K (opened (policy-of K)) b
+module _ (x : State) (e : open-state K x .state ≡ opened (policy-of K) (origin-of K)) where
+  frame-from : (b : List ℕ) → frame x b ≡ receive-packet K (opened (policy-of K) (origin-of K)) b
   frame-from b = ap (λ (y : State). receive-packet K y b) e
 
-  answer-from : (b : List ℕ) → frame x b .answer ≡ receive-packet K (opened (policy-of K)) b .answer
+  answer-from : (b : List ℕ) → frame x b .answer ≡ receive-packet K (opened (policy-of K) (origin-of K)) b .answer
   answer-from b = ap (λ (o : Packet-outcome). o .answer) (frame-from b)
 
-  verdicts-from : (b : List ℕ) → frame x b .state .verdicts ≡ receive-packet K (opened (policy-of K)) b .state .verdicts
+  verdicts-from : (b : List ℕ) → frame x b .state .verdicts ≡ receive-packet K (opened (policy-of K) (origin-of K)) b .state .verdicts
   verdicts-from b = ap (λ (o : Packet-outcome). o .state .verdicts) (frame-from b)
 
-  left-from : (b : List ℕ) → frame x b .state ≡ receive-packet K (opened (policy-of K)) b .state
+  left-from : (b : List ℕ) → frame x b .state ≡ receive-packet K (opened (policy-of K) (origin-of K)) b .state
   left-from b = ap (λ (o : Packet-outcome). o .state) (frame-from b)
 
 pub small-packets : (x : State) → open-state K x .answer ≡ Done → Small-packets x
-unfolding digit below expanded bit since until deep reading line-length fields-at keeps-kind good-line meaning formula-of subformula-of subformula-at heading-checks offset line-checks lines-checks lines-up-to subformulas-of rule-lines rules-up-to closing-checks policy-checks policy-answer policy-of component-of minute-of number-of named-of packed-of length-of fields-of good-alive good-observation all-written good-fields message-answer event-in meaning-of noted valued number is-point is-none sound fresh stored free admits valuation-of verdicts-of standing sizes-fit opened receive follow steady level full word-sound words-agree receive-packet messages-of used-of
+unfolding digit below expanded bit since until deep reading line-length fields-at keeps-kind good-line meaning formula-of subformula-of subformula-at heading-checks offset line-checks lines-checks lines-up-to subformulas-of rule-lines rules-up-to closing-checks policy-checks policy-answer policy-of component-of minute-of number-of named-of packed-of length-of fields-of good-alive good-observation all-written good-fields message-answer event-in meaning-of noted valued number is-point is-none sound fresh stored free admits valuation-of verdicts-of standing sizes-fit opened opened-under receive follow steady level full word-sound words-agree receive-packet messages-of used-of
 small-packets x d =
-    let k : open-state K x .state ≡ opened (policy-of K) = opens K x d .state in
+    let k : open-state K x .state ≡ opened (policy-of K) (origin-of K) = opens K x d .state in
     record {
       abd = answer-from x k (A ++ B ++ D);
       abd-sheet = verdicts-from x k (A ++ B ++ D);
@@ -230,3 +272,28 @@ small-packets x d =
       empty = answer-from x k [];
       empty-state = left-from x k [] ∙ sym (state-from K x k []);
     }
+
+opened-cards : Two-cards (opened (policy-of K) (origin-of K))
+unfolding digit below expanded bit since until deep reading line-length fields-at keeps-kind good-line meaning formula-of subformula-of subformula-at heading-checks offset line-checks lines-checks lines-up-to subformulas-of rule-lines rules-up-to closing-checks policy-checks policy-answer policy-of component-of minute-of number-of named-of packed-of length-of fields-of good-alive good-observation all-written good-fields message-answer event-in meaning-of noted valued number is-point is-none sound fresh stored free admits valuation-of verdicts-of standing sizes-fit opened opened-under receive follow steady level full word-sound words-agree open-state receive-packet messages-of used-of
+opened-cards = record {
+  stored = refl;
+  take-other = refl;
+  packet-other = refl;
+  empty-other = refl;
+  take-own = refl;
+  opened-anew = refl;
+  then-own = refl;
+  then-other = refl;
+  in-card = refl;
+  behind-card = refl;
+  last-byte = refl;
+  shorter = refl;
+  longer = refl;
+  past-all = refl;
+  short-buffer = refl;
+  unsound-other = refl;
+  unsound-own = refl;
+}
+
+pub two-cards : (x : State) → open-state K x .answer ≡ Done → Two-cards (open-state K x .state)
+two-cards x d = rw (opens K x d .state) opened-cards

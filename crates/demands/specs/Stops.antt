@@ -1,4 +1,4 @@
--- Why a packet stops: the checks 1 to 6 refuse it, as they refuse every take from this state; or it comes to a message that is refused, from a state
+-- Why a packet stops: the checks 1 to 6 and 12 refuse it, as they refuse every take from this state; or it comes to a message that is refused, from a state
 -- that passes those checks still, so with 7, 8 or 9 by that message's own cause; or all of it is taken. A message of a packet is as long as its fields
 -- say, or it is the last one and ends early: so 7 is always at the packet's end.
 use Prim.Native.Nat.{ℕ, _+_, _≤_, _<_}
@@ -51,25 +51,25 @@ piece (cut d l h) (c ∷ cs) m behind e = absurd (none cs cc)
 
 module _ (s : List ℕ) where
   abbrev firsts : State → List Check
-  firsts x = record-checks s (x .known) (length (x .valuation)) (length (x .verdicts))
+  firsts x = record-checks s x
 
-  -- ---- the checks 1 to 6
+  -- ---- the checks 1 to 6 and 12
 
   first-law : (x : State) → (first-failed (firsts x) ≡ C.Accepted) ↔ Passed s x
   first-law x = via (passing-law (firsts x)) (passed-record s (policy-causes s) x)
 
-  first-number : (x : State) (r : Refusal) → first-failed (firsts x) ≡ C.Refused r → (1 ≤ refusal-number r) × (refusal-number r ≤ 6)
+  first-number : (x : State) (r : Refusal) → first-failed (firsts x) ≡ C.Refused r → ((1 ≤ refusal-number r) × (refusal-number r ≤ 6)) ⊎ (refusal-number r ≡ 12)
   first-number x r e = record-number s (policy-causes s) x r (refusal-law (firsts x) r .0 e)
 
   -- they refuse every take
-  refuses-all : (x : State) (r : Refusal) → first-failed (firsts x) ≡ C.Refused r → (m : List ℕ) → receive s x m .answer ≡ Refused r
+  pub refuses-all : (x : State) (r : Refusal) → first-failed (firsts x) ≡ C.Refused r → (m : List ℕ) → receive s x m .answer ≡ Refused r
   unfolding receive
   refuses-all x r e m =
       ap (λ (c : Checked). unless c x (settled (policy-of s) x (meaning-of m)) .answer)
       (in-order (firsts x) (slip-checks (policy-of s) x m) ∙ ap (λ (a : Checked). and-then a (first-failed (slip-checks (policy-of s) x m))) e)
 
   -- and where they pass, a take is refused with 7 to 9
-  later-number : (x : State) (m : List ℕ) (r : Refusal) → Passed s x → receive s x m .answer ≡ Refused r → (7 ≤ refusal-number r) × (refusal-number r ≤ 9)
+  pub later-number : (x : State) (m : List ℕ) (r : Refusal) → Passed s x → receive s x m .answer ≡ Refused r → (7 ≤ refusal-number r) × (refusal-number r ≤ 9)
   unfolding receive
   later-number x m r ok e = go (refused-where (firsts x) (slip-checks (policy-of s) x m) r (refusal-law (take-checks s x m) r .0 failed))
     where
@@ -97,7 +97,7 @@ module _ (s : List ℕ) where
     unfolding receive-packet
     checked a e = ap (λ (c : Checked). unless-packet c x (take-each s x 0 0 (messages-of b))) e
 
-    -- with a message, the checks 1 to 6 are those of its first take
+    -- with a message, the checks 1 to 6 and 12 are those of its first take
     pub packet-plain : 0 < length b → receive-packet s x b ≡ take-each s x 0 0 (messages-of b)
     packet-plain h = go (first-failed (firsts x)) refl
       where
@@ -196,11 +196,15 @@ module _ (s : List ℕ) where
       refused-with : Refused-with (reply (receive s y m .answer)) n place
       counted : packet-place start (refusal-of n place) ≡ at
 
-    by-message : (n at : ℕ) → 7 ≤ n → Stopped-with (o .answer .stop) n at ↔ Stopped-by n at
+    by-message : (n at : ℕ) → (7 ≤ n) × (n ≤ 9) → Stopped-with (o .answer .stop) n at ↔ Stopped-by n at
     by-message n at l = (λ w. there (told n at w), back)
       where
         there : Told n at → Stopped-by n at
-        there (first r f e h) = absurd (omega (arith, first-number x r f, e))
+        there (first r f e h) = absurd (not-first (first-number x r f))
+          where
+            not-first : ((1 ≤ refusal-number r) × (refusal-number r ≤ 6)) ⊎ (refusal-number r ≡ 12) → ⊥
+            not-first (inl q) = omega (arith, q, e, l)
+            not-first (inr q) = omega (arith, q, e, l)
         there (message ok m start y c r f e h) =
             let w : Refused-with (reply (receive s y m .answer)) n (refusal-place r) = record { refusal = r; is = ap reply f; number = e; place = refl } in
             record { ok = ok; m = m; start = start; y = y; comes = c; place = refusal-place r; refused-with = w; counted = ap (packet-place start) (sym (the-refusal w)) ∙ h }
@@ -217,7 +221,7 @@ module _ (s : List ℕ) where
               counted = ap (packet-place (z .start)) (the-refusal w) ∙ z .counted;
             }
 
-    -- the state that a message is offered to passes the checks 1 to 6
+    -- the state that a message is offered to passes the checks 1 to 6 and 12
     still-passed : Passed s x → {m : List ℕ} {start : ℕ} {y : State} → Comes-to s x b m start y → Passed s y
     still-passed ok c = subst (Passed s) (sym (c .state)) (passed-each s (c .before) x ok (c .taken))
 
@@ -232,16 +236,20 @@ module _ (s : List ℕ) where
         go p (extra h) (inl e) = absurd (omega arith)
         go p (extra h) (inr e) = absurd (omega (arith, e .0))
 
-    first-six : (m : List ℕ) (n at : ℕ) → n ≤ 6 → Stopped-with (o .answer .stop) n at ↔ Refused-with (reply (receive s x m .answer)) n at
+    first-six : (m : List ℕ) (n at : ℕ) → (n ≤ 6) ⊎ (n ≡ 12) → Stopped-with (o .answer .stop) n at ↔ Refused-with (reply (receive s x m .answer)) n at
     first-six m n at l = (λ w. there (told n at w), λ w. back w (first-failed (firsts x)) refl)
       where
+        not-later : (n ≤ 6) ⊎ (n ≡ 12) → (7 ≤ n) × (n ≤ 9) → ⊥
+        not-later (inl q) h = omega (arith, q, h)
+        not-later (inr q) h = omega (arith, q, h)
+
         there : Told n at → Refused-with (reply (receive s x m .answer)) n at
         there (first r f e h) = record { refusal = r; is = ap reply (refuses-all x r f m); number = e; place = sym (first-place r) ∙ h }
-        there (message ok d start y c r f e h) = absurd (omega (arith, later-number y d r (still-passed ok c) f, e))
+        there (message ok d start y c r f e h) = absurd (not-later l (subst (λ (k : ℕ). (7 ≤ k) × (k ≤ 9)) e (later-number y d r (still-passed ok c) f)))
 
         back : Refused-with (reply (receive s x m .answer)) n at → (a : Checked) → first-failed (firsts x) ≡ a → Stopped-with (o .answer .stop) n at
         back w C.Accepted e =
-            absurd (omega (arith, later-number x m (w .refusal) (first-law x .0 e) (refused (receive s x m .answer) (w .refusal) .1 (w .is)), w .number))
+            absurd (not-later l (subst (λ (k : ℕ). (7 ≤ k) × (k ≤ 9)) (w .number) (later-number x m (w .refusal) (first-law x .0 e) (refused (receive s x m .answer) (w .refusal) .1 (w .is)))))
         back w (C.Refused r) e =
             let g : r ≡ w .refusal = same-refusal r (w .refusal) (sym (ap reply (refuses-all x r e m)) ∙ w .is) in
             record {
@@ -252,9 +260,13 @@ module _ (s : List ℕ) where
               counted = first-place r ∙ ap refusal-place g ∙ w .place;
             }
 
-    no-other : (n at : ℕ) → Told n at → (1 ≤ n) × (n ≤ 9)
-    no-other n at (first r f e h) = omega (arith, first-number x r f, e)
-    no-other n at (message ok m start y c r f e h) = omega (arith, later-number y m r (still-passed ok c) f, e)
+    no-other : (n at : ℕ) → Told n at → ((1 ≤ n) × (n ≤ 9)) ⊎ (n ≡ 12)
+    no-other n at (first r f e h) = go (first-number x r f)
+      where
+        go : ((1 ≤ refusal-number r) × (refusal-number r ≤ 6)) ⊎ (refusal-number r ≡ 12) → ((1 ≤ n) × (n ≤ 9)) ⊎ (n ≡ 12)
+        go (inl q) = inl (omega (arith, q, e))
+        go (inr q) = inr (sym e ∙ q)
+    no-other n at (message ok m start y c r f e h) = inl (omega (arith, later-number y m r (still-passed ok c) f, e))
 
     to-end : (e : Stop) → Way e → e ≡ P.AtEnd → Passed s x × Each-taken s x (messages-of b)
     to-end e (at-first r f) i = let z : _≡_ {A = ℕ} 0 1 = cc in absurd (omega arith)

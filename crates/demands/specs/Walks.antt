@@ -44,7 +44,7 @@ module _ (s : List ℕ) where
 
   -- ---- one take
 
-  answers : (x : State) (m : List ℕ) → Taken (receive s x m .answer) ⊎ ((r : Refusal) × (receive s x m .answer ≡ Refused r))
+  pub answers : (x : State) (m : List ℕ) → Taken (receive s x m .answer) ⊎ ((r : Refusal) × (receive s x m .answer ≡ Refused r))
   answers x m = go (receive s x m .answer) refl
     where
       go : (a : Answer) → receive s x m .answer ≡ a → Taken (receive s x m .answer) ⊎ ((r : Refusal) × (receive s x m .answer ≡ Refused r))
@@ -56,7 +56,7 @@ module _ (s : List ℕ) where
   took-one : (x : State) (m : List ℕ) → Taken (receive s x m .answer) → took (receive s x m .answer) m ≡ meaning-of m ∷ []
   took-one x m t = rw (left s x m t .answer)
 
-  kept : (x : State) (m : List ℕ) (r : Refusal) → receive s x m .answer ≡ Refused r → receive s x m .state ≡ x
+  pub kept : (x : State) (m : List ℕ) (r : Refusal) → receive s x m .answer ≡ Refused r → receive s x m .state ≡ x
   kept x m r e = demand-1 .take s x m .unwritten r e
 
   -- ---- byte strings that are all taken
@@ -170,19 +170,20 @@ module _ (s : List ℕ) where
           (λ l. t, λ u. omega (arith, e, walk-taken behind z (walk behind z) (n + 1) (at + bytes-in (m ∷ []))))
       go (inr q) = rw (q .1) (λ l. absurd (omega arith), λ u. absurd u)
 
-  -- ---- the checks 1 to 6, which each take of a packet passes where the first did
+  -- ---- the checks 1 to 6 and 12, which each take of a packet passes where the first did
 
-  passed-on : (x : State) (m : List ℕ) → Taken (receive s x m .answer) → Passed s (receive s x m .state)
+  pub passed-on : (x : State) (m : List ℕ) → Taken (receive s x m .answer) → Passed s (receive s x m .state)
   unfolding admits
   passed-on x m t =
       let q = demand-1 .take s x m .taken .0 t in
       let l = left s x m t in
       let k = stored (sizes-of s) (x .known) (meaning-of m) in
       let fit = ranged s (policy-causes s .accepted .1 (q .0 .policy)) m (q .1) in
-      let long = store-long (sizes-of s) (x .known) (meaning-of m) (knowledge-sized (policy-of s) x (q .0 .sized)) fit in
+      let long = store-long (sizes-of s) (x .known) (meaning-of m) (knowledge-sized (policy-of s) (q .0 .sized .sheets)) fit in
       rw (l .state) (record {
         policy = q .0 .policy;
-        sized = over-sized (policy-of s) k long;
+        sized = over-sized (policy-of s) (x .origin) k (q .0 .sized .origin) long;
+        origin = q .0 .origin;
         sound = sound-law (sizes-of s) k .0 (both (free (sizes-of s) (x .known) (meaning-of m)) (sound (sizes-of s) k) (l .tested) .1);
       })
 

@@ -2,12 +2,11 @@
 use mathlib.Core.Path.{_≡_, refl, sym, ap, ap₂, subst, _∙_}
 use mathlib.Core.Bool.{Bool, true, false}
 use mathlib.Core.List.{List, [], _∷_, _++_}
-use Prim.Native.Nat.{ℕ}
+use Prim.Native.Nat.{ℕ, _≤_}
 use lib.ListN.{length}
-use borrow.Author.Tests.{eqb-true}
 use Rattle.logic.specs.Bools.{both}
 use Rattle.refusal.specs.declared.Refusal.{Refusal}
-use Rattle.refusal.specs.declared.Refusal.the-variants.{BufferSize, CorruptKnowledge, Conflict}
+use Rattle.refusal.specs.declared.Refusal.the-variants.{BufferSize, CorruptKnowledge, Conflict, OtherPolicy}
 use Rattle.refusal.specs.declared.Answer.{Answer as Checked}
 use Rattle.refusal.specs.declared.Answer.the-variants as C
 use Rattle.refusal.specs.Checks.{Check, check, first-failed, and-then, Passed, pass, none}
@@ -17,17 +16,19 @@ use Rattle.policy.specs.declared.Policy.{Policy}
 use Rattle.policy.specs.declared.Decoded.{Decoded as Decoded-policy}
 use Rattle.policy.specs.Format.{policy-checks, answer-of, policy-of, decode-of as decode-policy}
 use Rattle.policy.specs.Proper.{Proper}
-use Rattle.policy.specs.Laws.{accepted}
+use Rattle.policy.specs.Laws.{accepted, short}
 use Rattle.message.specs.declared.Event.{Event}
 use Rattle.message.specs.declared.Decoded.{Decoded}
 use Rattle.message.specs.Format.{message-checks, answer-of as message-answer, decode-of}
 use Rattle.message.specs.Fixes.{Well-formed, meaning-of}
 use Rattle.message.specs.Laws.{decoded, decoded-answer}
-use Rattle.knowledge.specs.Knowledge.{Knowledge, Sound, sound, admits, Sized as Long}
+use Rattle.knowledge.specs.Knowledge.{Sound, sound, admits}
 use Rattle.knowledge.specs.Laws.{sound-law}
 use Rattle.knowledge.specs.Run.{sent}
 use Rattle.monitor.specs.declared.Answer.the-variants.{Done, Refused}
-use Rattle.monitor.specs.State.{State, Outcome, unless, Sized, sizes-fit, sized, opened, settled, slip-checks, take-message, size-checks, record-checks, opening-checks, open-state, receive}
+use Rattle.monitor.specs.declared.Lengths.{Lengths}
+use Rattle.origin.specs.Origin.{Origin, origin-of, opened-under, under-law}
+use Rattle.monitor.specs.State.{State, Outcome, unless, Sized, sizes-fit, sized, opened, settled, slip-checks, take-message, size-checks, origin-checks, record-checks, opening-checks, open-state, receive}
 use Rattle.monitor.specs.Checked.{Checks}
 use Rattle.monitor.specs.Laws.{sized-law}
 use Rattle.monitor.proofs.Decoding.{Read, answered, read-policy}
@@ -78,65 +79,83 @@ pub read-of : (xs : List Check) (s : List ℕ) (d : Decoded-policy) → Checks x
 read-of xs s d k e f = record { card = f; same = k .policy e; proper = subst Proper (sym (k .policy e)) (accepted s f) }
 
 -- 5, after the reader
-module _ (s : List ℕ) (n f v e : ℕ) (d : Decoded-policy) (r : d ≡ decode-policy s) where
-  pub sizes-refused : (q : Refusal) → d .answer ≡ C.Refused q → Checks (size-checks s n f v e) s d
-  sizes-refused q a = still-refused (policy-checks s) (sizes-fit (policy-of s) n f v e) BufferSize s d (reads s d r) q a
+module _ (s : List ℕ) (l : Lengths) (d : Decoded-policy) (r : d ≡ decode-policy s) where
+  pub sizes-refused : (q : Refusal) → d .answer ≡ C.Refused q → Checks (size-checks s l) s d
+  sizes-refused q a = still-refused (policy-checks s) (sizes-fit (policy-of s) l) BufferSize s d (reads s d r) q a
 
   module _ (a : d .answer ≡ C.Accepted) where
-    fitted : (b : Bool) → sizes-fit (d .policy) n f v e ≡ b → sizes-fit (policy-of s) n f v e ≡ b
-    fitted b = subst (λ (p : Policy). sizes-fit p n f v e ≡ b) (read-policy s d r a .same)
+    fitted : (b : Bool) → sizes-fit (d .policy) l ≡ b → sizes-fit (policy-of s) l ≡ b
+    fitted b = subst (λ (p : Policy). sizes-fit p l ≡ b) (read-policy s d r a .same)
 
-    pub sizes-misfit : sizes-fit (d .policy) n f v e ≡ false → Checks (size-checks s n f v e) s (record { answer = C.Refused BufferSize; policy = d .policy })
-    sizes-misfit t = then-refused (policy-checks s) (sizes-fit (policy-of s) n f v e) BufferSize s d (reads s d r) (d .policy) a (fitted false t)
+    pub sizes-misfit : sizes-fit (d .policy) l ≡ false → Checks (size-checks s l) s (record { answer = C.Refused BufferSize; policy = d .policy })
+    sizes-misfit t = then-refused (policy-checks s) (sizes-fit (policy-of s) l) BufferSize s d (reads s d r) (d .policy) a (fitted false t)
 
-    pub sizes-fine : sizes-fit (d .policy) n f v e ≡ true → Checks (size-checks s n f v e) s d
-    sizes-fine t = then-passed (policy-checks s) (sizes-fit (policy-of s) n f v e) BufferSize s d (reads s d r) a (fitted true t)
+    pub sizes-fine : sizes-fit (d .policy) l ≡ true → Checks (size-checks s l) s d
+    sizes-fine t = then-passed (policy-checks s) (sizes-fit (policy-of s) l) BufferSize s d (reads s d r) a (fitted true t)
 
-module _ (s : List ℕ) (n f v e : ℕ) (d : Decoded-policy) (k : Checks (size-checks s n f v e) s d) (a : d .answer ≡ C.Accepted) where
-  passed-sizes : (answer-of s ≡ C.Accepted) × (sizes-fit (policy-of s) n f v e ≡ true)
+-- what is known where 1 to 5 passed
+module _ (s : List ℕ) (x : State) (d : Decoded-policy) (k : Checks (opening-checks s x) s d) (a : d .answer ≡ C.Accepted) where
+  passed-sizes : (answer-of s ≡ C.Accepted) × (sized (policy-of s) x ≡ true)
   unfolding answer-of
-  passed-sizes = one-more (policy-checks s) (sizes-fit (policy-of s) n f v e) BufferSize (sym (k .answer) ∙ a)
+  passed-sizes = one-more (policy-checks s) (sized (policy-of s) x) BufferSize (sym (k .answer) ∙ a)
 
   pub sizes-read : Read s (d .policy)
-  sizes-read = read-of (size-checks s n f v e) s d k a (passed-sizes .0)
+  sizes-read = read-of (opening-checks s x) s d k a (passed-sizes .0)
 
-  pub sizes-passed : sizes-fit (d .policy) n f v e ≡ true
-  sizes-passed = subst (λ (p : Policy). sizes-fit p n f v e ≡ true) (sym (k .policy a)) (passed-sizes .1)
+  pub sizes-passed : Sized (d .policy) x
+  sizes-passed = subst (λ (p : Policy). Sized p x) (sym (k .policy a)) (sized-law (policy-of s) x .0 (passed-sizes .1))
 
--- what a look at the record's soundness needs
-pub record-long : (p : Policy) (k : Knowledge) (v e : ℕ) → sizes-fit p (length (k .numbers)) (length (k .facts)) v e ≡ true → Long (p .sizes) k
-unfolding sizes-fit
-record-long p k v e t = let a = both _ _ t in record { numbers = eqb-true _ _ (a .0); facts = eqb-true _ _ (both _ _ (a .1) .0) }
+  -- the card fits into its buffer
+  pub policy-short : length s ≤ 517
+  policy-short = short s (passed-sizes .0)
 
--- 6, after 5
-module _ (s : List ℕ) (k : Knowledge) (v e : ℕ) (d : Decoded-policy) (c : Checks (size-checks s (length (k .numbers)) (length (k .facts)) v e) s d) where
-  abbrev firsts : List Check
-  firsts = size-checks s (length (k .numbers)) (length (k .facts)) v e
+-- 12, after 5, and then 6
+module _ (s : List ℕ) (x : State) (d : Decoded-policy) (c : Checks (opening-checks s x) s d) where
+  abbrev under : Bool
+  under = opened-under s (x .origin)
 
-  pub record-refused : (q : Refusal) → d .answer ≡ C.Refused q → Checks (record-checks s k v e) s d
-  record-refused q a = still-refused firsts (sound (policy-of s .sizes) k) CorruptKnowledge s d c q a
+  abbrev clean : Bool
+  clean = sound (policy-of s .sizes) (x .known)
+
+  pub record-refused : (q : Refusal) → d .answer ≡ C.Refused q → Checks (record-checks s x) s d
+  record-refused q a =
+      still-refused (origin-checks s x) clean CorruptKnowledge s d (still-refused (opening-checks s x) under OtherPolicy s d c q a) q a
 
   module _ (a : d .answer ≡ C.Accepted) where
-    tested : (b : Bool) → sound (d .policy .sizes) k ≡ b → sound (policy-of s .sizes) k ≡ b
-    tested b = subst (λ (p : Policy). sound (p .sizes) k ≡ b) (c .policy a)
+    pub record-other : under ≡ false → Checks (record-checks s x) s (record { answer = C.Refused OtherPolicy; policy = d .policy })
+    record-other t =
+        still-refused (origin-checks s x) clean CorruptKnowledge s _ (then-refused (opening-checks s x) under OtherPolicy s d c (d .policy) a t) OtherPolicy refl
 
-    pub record-corrupt : sound (d .policy .sizes) k ≡ false → Checks (record-checks s k v e) s (record { answer = C.Refused CorruptKnowledge; policy = d .policy })
-    record-corrupt t = then-refused firsts (sound (policy-of s .sizes) k) CorruptKnowledge s d c (d .policy) a (tested false t)
+    module _ (o : under ≡ true) where
+      let-past : Checks (origin-checks s x) s d
+      let-past = then-passed (opening-checks s x) under OtherPolicy s d c a o
 
-    pub record-fine : sound (d .policy .sizes) k ≡ true → Checks (record-checks s k v e) s d
-    record-fine t = then-passed firsts (sound (policy-of s .sizes) k) CorruptKnowledge s d c a (tested true t)
+      tested : (b : Bool) → sound (d .policy .sizes) (x .known) ≡ b → clean ≡ b
+      tested b = subst (λ (p : Policy). sound (p .sizes) (x .known) ≡ b) (c .policy a)
 
-module _ (s : List ℕ) (x : State) (d : Decoded-policy)
-    (k : Checks (record-checks s (x .known) (length (x .valuation)) (length (x .verdicts))) s d) (a : d .answer ≡ C.Accepted) where
-  passed-record : (first-failed (opening-checks s x) ≡ C.Accepted) × (sound (policy-of s .sizes) (x .known) ≡ true)
-  passed-record = one-more (opening-checks s x) (sound (policy-of s .sizes) (x .known)) CorruptKnowledge (sym (k .answer) ∙ a)
+      pub record-corrupt : sound (d .policy .sizes) (x .known) ≡ false → Checks (record-checks s x) s (record { answer = C.Refused CorruptKnowledge; policy = d .policy })
+      record-corrupt t = then-refused (origin-checks s x) clean CorruptKnowledge s d let-past (d .policy) a (tested false t)
+
+      pub record-fine : sound (d .policy .sizes) (x .known) ≡ true → Checks (record-checks s x) s d
+      record-fine t = then-passed (origin-checks s x) clean CorruptKnowledge s d let-past a (tested true t)
+
+-- what is known where all of these passed
+module _ (s : List ℕ) (x : State) (d : Decoded-policy) (k : Checks (record-checks s x) s d) (a : d .answer ≡ C.Accepted) where
+  passed-record : (first-failed (origin-checks s x) ≡ C.Accepted) × (sound (policy-of s .sizes) (x .known) ≡ true)
+  passed-record = one-more (origin-checks s x) (sound (policy-of s .sizes) (x .known)) CorruptKnowledge (sym (k .answer) ∙ a)
+
+  passed-origin : (first-failed (opening-checks s x) ≡ C.Accepted) × (opened-under s (x .origin) ≡ true)
+  passed-origin = one-more (opening-checks s x) (opened-under s (x .origin)) OtherPolicy (passed-record .0)
 
   passed-first : (answer-of s ≡ C.Accepted) × (sized (policy-of s) x ≡ true)
   unfolding answer-of
-  passed-first = one-more (policy-checks s) (sized (policy-of s) x) BufferSize (passed-record .0)
+  passed-first = one-more (policy-checks s) (sized (policy-of s) x) BufferSize (passed-origin .0)
 
   pub record-read : Read s (d .policy)
   record-read = read-of _ s d k a (passed-first .0)
+
+  pub record-under : x .origin ≡ origin-of s
+  record-under = under-law s (x .origin) .0 (passed-origin .1)
 
   pub record-sized : Sized (d .policy) x
   record-sized = subst (λ (p : Policy). Sized p x) (sym (k .policy a)) (sized-law (policy-of s) x .0 (passed-first .1))
@@ -149,24 +168,24 @@ module _ (s : List ℕ) (x : State) (d : Decoded-policy)
 module _ (s : List ℕ) (x : State) (d : Decoded-policy) (k : Checks (opening-checks s x) s d) where
   pub open-refused : (r : Refusal) → d .answer ≡ C.Refused r → record { answer = Refused r; state = x } ≡ open-state s x
   unfolding open-state
-  open-refused r e = sym (ap (λ (a : Checked). unless a x (record { answer = Done; state = opened (policy-of s) })) (sym (k .answer) ∙ e))
+  open-refused r e = sym (ap (λ (a : Checked). unless a x (record { answer = Done; state = opened (policy-of s) (origin-of s) })) (sym (k .answer) ∙ e))
 
-  pub open-done : (y : State) → d .answer ≡ C.Accepted → y ≡ opened (d .policy) → record { answer = Done; state = y } ≡ open-state s x
+  pub open-done : (y : Origin → State) (o : Origin) → d .answer ≡ C.Accepted → ((u : Origin) → y u ≡ opened (d .policy) u) → o ≡ origin-of s
+      → record { answer = Done; state = y o } ≡ open-state s x
   unfolding open-state
-  open-done y e f =
-      ap (λ (w : State). record { answer = Done; state = w }) (f ∙ ap opened (k .policy e))
-      ∙ sym (ap (λ (a : Checked). unless a x (record { answer = Done; state = opened (policy-of s) })) (sym (k .answer) ∙ e))
+  open-done y o e f g =
+      ap (λ (w : State). record { answer = Done; state = w }) (f o ∙ ap₂ opened (k .policy e) g)
+      ∙ sym (ap (λ (a : Checked). unless a x (record { answer = Done; state = opened (policy-of s) (origin-of s) })) (sym (k .answer) ∙ e))
 
 -- ---- a take
 
-module _ (s : List ℕ) (x : State) (b : List ℕ) (d : Decoded-policy)
-    (k : Checks (record-checks s (x .known) (length (x .valuation)) (length (x .verdicts))) s d) where
+module _ (s : List ℕ) (x : State) (b : List ℕ) (d : Decoded-policy) (k : Checks (record-checks s x) s d) where
   in-turn : (a : Checked) → d .answer ≡ a → unless a x (take-message (policy-of s) x b) ≡ receive s x b
   unfolding receive
   in-turn a e =
       sym (ap (λ (c : Checked). unless c x (settled (policy-of s) x (meaning-of b)))
-      (in-order (record-checks s (x .known) (length (x .valuation)) (length (x .verdicts))) (slip-checks (policy-of s) x b))
-      ∙ unless-then (first-failed (record-checks s (x .known) (length (x .valuation)) (length (x .verdicts)))) (first-failed (slip-checks (policy-of s) x b)) x _
+      (in-order (record-checks s x) (slip-checks (policy-of s) x b))
+      ∙ unless-then (first-failed (record-checks s x)) (first-failed (slip-checks (policy-of s) x b)) x _
       ∙ ap (λ (c : Checked). unless c x (take-message (policy-of s) x b)) (sym (k .answer) ∙ e))
 
   pub receive-refused : (r : Refusal) → d .answer ≡ C.Refused r → record { answer = Refused r; state = x } ≡ receive s x b

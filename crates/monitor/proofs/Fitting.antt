@@ -1,6 +1,6 @@
--- The four sizes, tested one after another; the products are small. Assumes nothing.
-use mathlib.Core.Path.{_≡_, sym, ap, _∙_}
-use mathlib.Core.Bool.{false}
+-- The sizes, tested one after another; the products are small. Assumes nothing.
+use mathlib.Core.Path.{_≡_, refl, sym, ap, _∙_}
+use mathlib.Core.Bool.{true, false}
 use Prim.Native.Nat.{ℕ, suc, _+_, _*_, _≤_}
 use native.Mathlib.Nat.{mul-le-mul}
 use native.Mathlib.Numerals.{add-one}
@@ -9,6 +9,7 @@ use lib.Dec.{eqb}
 use borrow.Author.Tests.{eq-eqb, ne-eqb}
 use Rattle.policy.specs.declared.Policy.{Policy}
 use Rattle.policy.specs.Proper.{Proper}
+use Rattle.monitor.specs.declared.Lengths.{Lengths}
 use Rattle.monitor.specs.State.{sizes-fit}
 
 module _ (p : Policy) (z : Proper p) where
@@ -21,24 +22,38 @@ module _ (p : Policy) (z : Proper p) where
   pub verdicts-small : p .rules * p .sizes .minutes ≤ 8192
   verdicts-small = mul-le-mul {n₂ = 8} {m₂ = 1024} (z .rules .high) (z .minutes .high)
 
-module _ (p : Policy) (n f v d : ℕ) where
+module _ (p : Policy) (l : Lengths) where
   same : p .sizes .components * (p .sizes .minutes + 1) ≡ p .sizes .components * suc (p .sizes .minutes)
   same = ap (λ (m : ℕ). p .sizes .components * m) (add-one (p .sizes .minutes))
 
-  pub numbers-off : (n ≡ p .sizes .components * (p .sizes .minutes + 1) → ⊥) → false ≡ sizes-fit p n f v d
+  pub numbers-off : (l .numbers ≡ p .sizes .components * (p .sizes .minutes + 1) → ⊥) → false ≡ sizes-fit p l
   unfolding sizes-fit
-  numbers-off h = simp (ne-eqb n (p .sizes .components * suc (p .sizes .minutes)) (λ e. h (e ∙ sym same)))
+  numbers-off h = rw (ne-eqb (l .numbers) (p .sizes .components * suc (p .sizes .minutes)) (λ e. h (e ∙ sym same))) refl
 
-  module _ (a : n ≡ p .sizes .components * (p .sizes .minutes + 1)) where
-    pub facts-off : (f ≡ 2 * p .sizes .minutes → ⊥) → false ≡ sizes-fit p n f v d
+  module _ (a : l .numbers ≡ p .sizes .components * (p .sizes .minutes + 1)) where
+    numbers-fit : eqb (l .numbers) (p .sizes .components * suc (p .sizes .minutes)) ≡ true
+    numbers-fit = eq-eqb (l .numbers) (p .sizes .components * suc (p .sizes .minutes)) (a ∙ same)
+
+    pub facts-off : (l .facts ≡ 2 * p .sizes .minutes → ⊥) → false ≡ sizes-fit p l
     unfolding sizes-fit
-    facts-off h = simp (eq-eqb n (p .sizes .components * suc (p .sizes .minutes)) (a ∙ same), ne-eqb f (2 * p .sizes .minutes) h)
+    facts-off h = rw (numbers-fit, ne-eqb (l .facts) (2 * p .sizes .minutes) h) refl
 
-    module _ (b : f ≡ 2 * p .sizes .minutes) where
-      pub valuation-off : (v ≡ p .count * p .sizes .minutes → ⊥) → false ≡ sizes-fit p n f v d
-      unfolding sizes-fit
-      valuation-off h = simp (eq-eqb n (p .sizes .components * suc (p .sizes .minutes)) (a ∙ same), eq-eqb f (2 * p .sizes .minutes) b, ne-eqb v (p .count * p .sizes .minutes) h)
+    module _ (b : l .facts ≡ 2 * p .sizes .minutes) where
+      facts-fit : eqb (l .facts) (2 * p .sizes .minutes) ≡ true
+      facts-fit = eq-eqb (l .facts) (2 * p .sizes .minutes) b
 
-      pub verdicts-test : v ≡ p .count * p .sizes .minutes → eqb d (p .rules * p .sizes .minutes) ≡ sizes-fit p n f v d
+      pub valuation-off : (l .valuation ≡ p .count * p .sizes .minutes → ⊥) → false ≡ sizes-fit p l
       unfolding sizes-fit
-      verdicts-test h = simp (eq-eqb n (p .sizes .components * suc (p .sizes .minutes)) (a ∙ same), eq-eqb f (2 * p .sizes .minutes) b, eq-eqb v (p .count * p .sizes .minutes) h)
+      valuation-off h = rw (numbers-fit, facts-fit, ne-eqb (l .valuation) (p .count * p .sizes .minutes) h) refl
+
+      module _ (c : l .valuation ≡ p .count * p .sizes .minutes) where
+        valuation-fit : eqb (l .valuation) (p .count * p .sizes .minutes) ≡ true
+        valuation-fit = eq-eqb (l .valuation) (p .count * p .sizes .minutes) c
+
+        pub verdicts-off : (l .verdicts ≡ p .rules * p .sizes .minutes → ⊥) → false ≡ sizes-fit p l
+        unfolding sizes-fit
+        verdicts-off h = rw (numbers-fit, facts-fit, valuation-fit, ne-eqb (l .verdicts) (p .rules * p .sizes .minutes) h) refl
+
+        pub origin-test : l .verdicts ≡ p .rules * p .sizes .minutes → eqb (l .origin) 517 ≡ sizes-fit p l
+        unfolding sizes-fit
+        origin-test h = rw (numbers-fit, facts-fit, valuation-fit, eq-eqb (l .verdicts) (p .rules * p .sizes .minutes) h) refl

@@ -1,7 +1,6 @@
 pub mod Decoding
 pub mod Looking
 pub mod Calls
-pub mod Filling
 pub mod Fitting
 pub mod Settling
 pub mod Storing

@@ -31,12 +31,14 @@ use Rattle.knowledge.specs.Run.{held}
 use Rattle.monitor.specs.declared.Answer.the-variants.{Received}
 use Rattle.monitor.specs.declared.PacketAnswer.{PacketAnswer}
 use Rattle.monitor.specs.declared.Stop.the-variants as P
-use Rattle.monitor.specs.State.{State, Outcome, lent, outcome, Sized, over, rewritten, receive, Packet-outcome, packet-outcome, stopped, refused-at, ends-or, take-each, unless-packet, receive-packet, record-checks}
+use Rattle.origin.specs.Origin.{Origin, origin-of, origin-long}
+use Rattle.monitor.specs.State.{State, Outcome, outcome, Sized-sheets, Sized, over, rewritten, receive, Packet-outcome, packet-outcome, stopped, refused-at, ends-or, take-each, unless-packet, receive-packet, record-checks}
 use Rattle.monitor.specs.Storing.{said, Ranged, Stored, stored-as, stored-unless, store-message, sheets-after, settle-message, Stored-packet, stored-packet, stores, stores-or, store-each, sheets-once, take-packet}
 use Rattle.monitor.specs.Checked.{Checks}
 use Rattle.monitor.specs.Laws.{knowledge-sized, plain-take, over-sized}
-use Rattle.monitor.proofs.Calls.{record-read, record-sized, record-sound}
+use Rattle.monitor.proofs.Calls.{record-read, record-under, record-sized, record-sound}
 use Rattle.policy.specs.Proper.{Proper}
+use Rattle.policy.specs.Laws.{short}
 use Rattle.monitor.proofs.Settling.{limits}
 use Rattle.monitor.proofs.Storing.{refusal-keeps, still-long, still-sound, ranged, take-read}
 
@@ -202,57 +204,66 @@ each-kept z limits (m ∷ ms) k l h n at =
 -- ---- the sheets, once
 
 -- an answer over both sheets
-abbrev read-over : Policy → Stored-packet → Packet-outcome
-read-over p o = record { answer = o .answer; state = over p (o .known) }
+abbrev read-over : Policy → Origin → Stored-packet → Packet-outcome
+read-over p u o = record { answer = o .answer; state = over p u (o .known) }
 
 module _ (s : List ℕ) (card : answer-of s ≡ C.Accepted) (limits : Limits (policy-of s .sizes)) where
   abbrev z : Sizes
   z = policy-of s .sizes
 
   -- what a take leaves, from what it stores
-  take-stored : (x : State) → Sized (policy-of s) x → Sound z (x .known) → (m : List ℕ) → receive s x m ≡ settle-message (policy-of s) x (decode-of z m)
-  take-stored x y h m = plain-take s x card y h m ∙ sym (take-read (policy-of s) x m)
+  take-stored : (x : State) → Sized (policy-of s) x → x .origin ≡ origin-of s → Sound z (x .known) → (m : List ℕ)
+      → receive s x m ≡ settle-message (policy-of s) x (decode-of z m)
+  take-stored x y u h m = plain-take s x card y u h m ∙ sym (take-read (policy-of s) x m)
 
   -- how the takes go on after one
   abbrev onward : ℕ → ℕ → List ℕ → List (List ℕ) → Outcome → Packet-outcome
   onward n at m ms o = ends-or (o .answer) (λ r. stopped n (refused-at at r) (o .state)) (take-each s (o .state) (n + 1) (at + length m) ms)
 
   -- from sheets that are the reading
+  abbrev here : Knowledge → State
+  here = over (policy-of s) (origin-of s)
+
   over-each : (ms : List (List ℕ)) (k : Knowledge) → Long z k → Sound z k → (n at : ℕ)
-      → take-each s (over (policy-of s) k) n at ms ≡ read-over (policy-of s) (store-each z k n at ms)
+      → take-each s (here k) n at ms ≡ read-over (policy-of s) (origin-of s) (store-each z k n at ms)
   over-each [] k l h n at = refl
   over-each (m ∷ ms) k l h n at =
-      ap (onward n at m ms) (take-stored (over (policy-of s) k) (over-sized (policy-of s) k l) h m)
+      ap (onward n at m ms) (take-stored (here k) (over-sized (policy-of s) (origin-of s) k (origin-long s (short s card)) l) refl h m)
       ∙ go (store-message z k (decode-of z m) .answer)
       (over-each ms (known-after z k m) (still-long z k (decode-of z m) l (ranged z limits m)) (still-sound z k (decode-of z m) h) (n + 1) (at + length m))
     where
       go : (a : Checked)
-          → take-each s (over (policy-of s) (known-after z k m)) (n + 1) (at + length m) ms ≡ read-over (policy-of s) (behind z k n at m ms)
-          → onward n at m ms (sheets-after (policy-of s) (over (policy-of s) k) a (known-after z k m))
-          ≡ read-over (policy-of s) (stores-or a (λ r. stores n (refused-at at r) k) (behind z k n at m ms))
+          → take-each s (here (known-after z k m)) (n + 1) (at + length m) ms ≡ read-over (policy-of s) (origin-of s) (behind z k n at m ms)
+          → onward n at m ms (sheets-after (policy-of s) (here k) a (known-after z k m))
+          ≡ read-over (policy-of s) (origin-of s) (stores-or a (λ r. stores n (refused-at at r) k) (behind z k n at m ms))
       go C.Accepted rest = rest
       go (C.Refused r) rest = refl
 
   -- from any sheets
-  pub once : (x : State) → Sized (policy-of s) x → Sound z (x .known) → (ms : List (List ℕ)) → sheets-once (policy-of s) x (store-each z (x .known) 0 0 ms) ≡ take-each s x 0 0 ms
-  once x y h [] = refl
-  once x y h (m ∷ ms) = sym (ap (onward 0 0 m ms) (take-stored x y h m) ∙ go (store-message z (x .known) (decode-of z m) .answer))
+  pub once : (x : State) → Sized (policy-of s) x → x .origin ≡ origin-of s → Sound z (x .known) → (ms : List (List ℕ))
+      → sheets-once (policy-of s) x (store-each z (x .known) 0 0 ms) ≡ take-each s x 0 0 ms
+  once x y u h [] = refl
+  once x y u h (m ∷ ms) = sym (ap (onward 0 0 m ms) (take-stored x y u h m) ∙ go (store-message z (x .known) (decode-of z m) .answer))
     where
-      worked : (o : Stored-packet) → 1 ≤ o .answer .taken → sheets-once (policy-of s) x o ≡ read-over (policy-of s) o
-      worked o l = ap (λ (b : Bool). record { answer = o .answer; state = cond b x (over (policy-of s) (o .known)) }) (ne-eqb (o .answer .taken) 0 (omega arith))
+      worked : (o : Stored-packet) → 1 ≤ o .answer .taken → sheets-once (policy-of s) x o ≡ read-over (policy-of s) (x .origin) o
+      worked o l = ap (λ (b : Bool). record { answer = o .answer; state = cond b x (over (policy-of s) (x .origin) (o .known)) }) (ne-eqb (o .answer .taken) 0 (omega arith))
+
+      -- the takes behind it, from the same origin
+      behind-it : (k : Knowledge) → Long z k → Sound z k
+          → take-each s (over (policy-of s) (x .origin) k) (0 + 1) (0 + length m) ms ≡ read-over (policy-of s) (x .origin) (store-each z k (0 + 1) (0 + length m) ms)
+      behind-it k l h = rw u (over-each ms k l h (0 + 1) (0 + length m))
 
       go : (a : Checked) → onward 0 0 m ms (sheets-after (policy-of s) x a (known-after z (x .known) m))
           ≡ sheets-once (policy-of s) x (stores-or a (λ r. stores 0 (refused-at 0 r) (x .known)) (behind z (x .known) 0 0 m ms))
       go C.Accepted =
-          over-each ms (known-after z (x .known) m)
-          (still-long z (x .known) (decode-of z m) (knowledge-sized (policy-of s) x y) (ranged z limits m)) (still-sound z (x .known) (decode-of z m) h) (0 + 1) (0 + length m)
+          behind-it (known-after z (x .known) m)
+          (still-long z (x .known) (decode-of z m) (knowledge-sized (policy-of s) (y .sheets)) (ranged z limits m)) (still-sound z (x .known) (decode-of z m) h)
           ∙ sym (worked (behind z (x .known) 0 0 m ms) (taken-more z (known-after z (x .known) m) (0 + 1) (0 + length m) ms))
       go (C.Refused r) = refl
 
 -- ---- the call
 
-module _ (s : List ℕ) (x : State) (b : List ℕ) (d : Decoded-policy)
-    (k : Checks (record-checks s (x .known) (length (x .valuation)) (length (x .verdicts))) s d) where
+module _ (s : List ℕ) (x : State) (b : List ℕ) (d : Decoded-policy) (k : Checks (record-checks s x) s d) where
   pub packet-refused : (r : Refusal) → d .answer ≡ C.Refused r → (place : ℕ) → place ≡ refusal-place r → stopped 0 (P.Refused r place) x ≡ receive-packet s x b
   unfolding receive-packet
   packet-refused r e place q =
@@ -266,33 +277,36 @@ module _ (s : List ℕ) (x : State) (b : List ℕ) (d : Decoded-policy)
       let q = r .same in
       f ∙ ap (λ (y : Policy). take-packet y x b) q
       ∙ once s (r .card) (limits (policy-of s) (subst Proper q (r .proper))) x
-      (subst (λ (y : Policy). Sized y x) q (record-sized s x d k e)) (subst (λ (y : Policy). Sound (y .sizes) (x .known)) q (record-sound s x d k e)) (messages-of b)
+      (subst (λ (y : Policy). Sized y x) q (record-sized s x d k e)) (record-under s x d k e) (subst (λ (y : Policy). Sound (y .sizes) (x .known)) q (record-sound s x d k e)) (messages-of b)
       ∙ sym (ap (λ (a : Checked). unless-packet a x (take-each s x 0 0 (messages-of b))) (sym (k .answer) ∙ e))
 
 -- ---- the packet that was stored
 
 module _ (p : Policy) (x : State) (b n f : List ℕ) (a : PacketAnswer) (e : stored-packet a n f ≡ store-each (p .sizes) (x .known) 0 0 (messages-of b)) where
   -- nothing is written where none is taken
-  pub none-taken : a .taken ≡ 0 → packet-outcome a n f (x .valuation) (x .verdicts) ≡ take-packet p x b
+  pub none-taken : a .taken ≡ 0 → packet-outcome a n f (x .valuation) (x .verdicts) (x .origin) ≡ take-packet p x b
   none-taken h =
       let t : store-each (p .sizes) (x .known) 0 0 (messages-of b) .answer .taken ≡ 0 = ap (λ (o : Stored-packet). o .answer .taken) (sym e) ∙ h in
       let k : held n f ≡ x .known = ap (λ (o : Stored-packet). o .known) e ∙ none-kept (p .sizes) (x .known) 0 0 (messages-of b) t in
-      ap (λ (y : Knowledge). record { answer = a; state = record { known = y; valuation = x .valuation; verdicts = x .verdicts } }) k
-      ∙ sym (ap (λ (v : Bool). record { answer = a; state = cond v x (over p (held n f)) }) (eq-eqb (a .taken) 0 h))
+      ap (λ (y : Knowledge). record { answer = a; state = record { known = y; valuation = x .valuation; verdicts = x .verdicts; origin = x .origin } }) k
+      ∙ sym (ap (λ (v : Bool). record { answer = a; state = cond v x (over p (x .origin) (held n f)) }) (eq-eqb (a .taken) 0 h))
       ∙ ap (sheets-once p x) e
-
-  pub some-needs : Proper p → Sized p x → Sound (p .sizes) (x .known) → Sized p (lent n f (x .valuation) (x .verdicts)) × Sound (p .sizes) (held n f)
-  some-needs q z s =
-      let k : store-each (p .sizes) (x .known) 0 0 (messages-of b) .known ≡ held n f = ap (λ (o : Stored-packet). o .known) (sym e) in
-      let r = each-kept (p .sizes) (limits p q) (messages-of b) (x .known) (knowledge-sized p x z) s 0 0 in
-      let l : Long (p .sizes) (held n f) = subst (Long (p .sizes)) k (r .0) in (
-        record { numbers = l .numbers; facts = l .facts; valuation = z .valuation; verdicts = z .verdicts },
-        subst (Sound (p .sizes)) k (r .1),
-      )
 
   -- and else both sheets are rewritten
-  pub some-taken : (v d : List ℕ) (m : ℕ) → (a .taken ≡ 0 → ⊥) → outcome (Received m) n f v d ≡ rewritten p (held n f) → packet-outcome a n f v d ≡ take-packet p x b
+  pub some-taken : (v d : List ℕ) (m : ℕ) → (a .taken ≡ 0 → ⊥) → outcome (Received m) n f v d (x .origin) ≡ rewritten p (x .origin) (held n f)
+      → packet-outcome a n f v d (x .origin) ≡ take-packet p x b
   some-taken v d m h g =
       ap (λ (o : Outcome). record { answer = a; state = o .state }) g
-      ∙ sym (ap (λ (c : Bool). record { answer = a; state = cond c x (over p (held n f)) }) (ne-eqb (a .taken) 0 h))
+      ∙ sym (ap (λ (c : Bool). record { answer = a; state = cond c x (over p (x .origin) (held n f)) }) (ne-eqb (a .taken) 0 h))
       ∙ ap (sheets-once p x) e
+
+-- what the sheets need
+pub some-needs : (p : Policy) (k : Knowledge) (v w b n f : List ℕ) (a : PacketAnswer) → stored-packet a n f ≡ store-each (p .sizes) k 0 0 (messages-of b)
+    → Proper p → Sized-sheets p k v w → Sound (p .sizes) k → Sized-sheets p (held n f) v w × Sound (p .sizes) (held n f)
+some-needs p k v w b n f a e q z s =
+    let i : store-each (p .sizes) k 0 0 (messages-of b) .known ≡ held n f = ap (λ (o : Stored-packet). o .known) (sym e) in
+    let r = each-kept (p .sizes) (limits p q) (messages-of b) k (knowledge-sized p z) s 0 0 in
+    let l : Long (p .sizes) (held n f) = subst (Long (p .sizes)) i (r .0) in (
+      record { numbers = l .numbers; facts = l .facts; valuation = z .valuation; verdicts = z .verdicts },
+      subst (Sound (p .sizes)) i (r .1),
+    )

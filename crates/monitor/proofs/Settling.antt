@@ -17,7 +17,8 @@ use Rattle.knowledge.specs.Runs.{runs-of}
 use Rattle.valuation.specs.Rows.{Points}
 use Rattle.valuation.specs.Sheets.{valuation-of, verdicts-of, standing}
 use Rattle.monitor.specs.declared.Answer.the-variants.{Received}
-use Rattle.monitor.specs.State.{Outcome, lent, outcome, Sized, opened, rewritten}
+use Rattle.origin.specs.Origin.{Origin}
+use Rattle.monitor.specs.State.{Outcome, lent, outcome, Sized-sheets, opened, rewritten}
 use Rattle.monitor.specs.Laws.{fresh-sound, sheet-lengths, blank-sheet, lengths}
 
 pub limits : (p : Policy) → Proper p → Limits (p .sizes)
@@ -49,7 +50,7 @@ module _ (p : Policy) (k : Knowledge) (points : List ℕ) (row : Point-row (p .s
 
 -- ---- both sheets from the record
 
-module _ (p : Policy) (proper : Proper p) (n f v d : List ℕ) (z : Sized p (lent n f v d)) (sound : Sound (p .sizes) (held n f)) where
+module _ (p : Policy) (proper : Proper p) (n f v d : List ℕ) (z : Sized-sheets p (held n f) v d) (sound : Sound (p .sizes) (held n f)) where
   -- what the row of time points needs
   pub row-needs : (p .sizes .minutes ≤ 1024) × (length n ≡ p .sizes .components * suc (p .sizes .minutes)) × Steady-runs (p .sizes) n
   row-needs = (proper .minutes .high, z .numbers, runs-of (p .sizes) (held n f) sound)
@@ -58,20 +59,20 @@ module _ (p : Policy) (proper : Proper p) (n f v d : List ℕ) (z : Sized p (len
       → ((y : Knowledge) → y .facts ≡ f → Points (p .sizes) y points → v′ ≡ valuation-of p y ++ drop (p .count * p .sizes .minutes) v)
       → ((y : Knowledge) → Points (p .sizes) y points → take (p .count * p .sizes .minutes) v′ ≡ valuation-of p y
       → (d′ ≡ verdicts-of p y ++ drop (p .rules * p .sizes .minutes) d) × (r ≡ standing (verdicts-of p y)))
-      → outcome (Received r) n f v′ d′ ≡ rewritten p (held n f)
-  rewrites v′ d′ points r row w u =
+      → (o : Origin) → outcome (Received r) n f v′ d′ o ≡ rewritten p o (held n f)
+  rewrites v′ d′ points r row w u o =
       let x : v′ ≡ valuation-of p (held n f) = evaluated p (held n f) points row v v′ (z .valuation) w in
       let c = concluded p (held n f) points row v′ d d′ r x (z .verdicts) u in
       rw (x, c .0, c .1) refl
 
 -- what both sheets leave, from numbers and facts that are those of some knowledge
-pub rewritten-of : (p : Policy) (k : Knowledge) (n f v d : List ℕ) (r : ℕ) → n ≡ k .numbers → f ≡ k .facts
-    → outcome (Received r) n f v d ≡ rewritten p (held n f) → outcome (Received r) n f v d ≡ rewritten p k
-rewritten-of p k n f v d r a b e = e ∙ ap₂ (λ (x y : List ℕ). rewritten p (held x y)) a b
+pub rewritten-of : (p : Policy) (o : Origin) (k : Knowledge) (n f v d : List ℕ) (r : ℕ) → n ≡ k .numbers → f ≡ k .facts
+    → outcome (Received r) n f v d o ≡ rewritten p o (held n f) → outcome (Received r) n f v d o ≡ rewritten p o k
+rewritten-of p o k n f v d r a b e = e ∙ ap₂ (λ (x y : List ℕ). rewritten p o (held x y)) a b
 
 -- ---- an opening
 
-module _ (p : Policy) (n f v d : List ℕ) (z : Sized p (lent n f v d)) where
+module _ (p : Policy) (n f v d : List ℕ) (z : Sized-sheets p (held n f) v d) where
   fresh-numbers : (n′ : List ℕ) → n′ ≡ table (length n) (λ i. cond (eqb (i % (p .sizes .minutes + 1)) 0) 0 none) → n′ ≡ fresh (p .sizes) .numbers
   unfolding fresh
   fresh-numbers n′ e =
@@ -83,7 +84,7 @@ module _ (p : Policy) (n f v d : List ℕ) (z : Sized p (lent n f v d)) where
   all-zero f′ e = e ∙ ap (λ (m : ℕ). replicate m 0) (z .facts)
 
   module _ (n′ f′ : List ℕ) (a : n′ ≡ table (length n) (λ i. cond (eqb (i % (p .sizes .minutes + 1)) 0) 0 none)) (b : f′ ≡ replicate (length f) 0) where
-    pub fresh-needs : Sized p (lent n′ f′ v d) × Sound (p .sizes) (held n′ f′)
+    pub fresh-needs : Sized-sheets p (held n′ f′) v d × Sound (p .sizes) (held n′ f′)
     fresh-needs = (
       record {
         numbers = ap length (fresh-numbers n′ a) ∙ lengths p .0;
@@ -94,8 +95,8 @@ module _ (p : Policy) (n f v d : List ℕ) (z : Sized p (lent n f v d)) where
       rw (fresh-numbers n′ a, all-zero f′ b) (fresh-sound p),
     )
 
-    pub refreshed : (v′ d′ : List ℕ) (r : ℕ) → outcome (Received r) n′ f′ v′ d′ ≡ rewritten p (held n′ f′) → lent n′ f′ v′ d′ ≡ opened p
+    pub refreshed : (v′ d′ : List ℕ) (r : ℕ) → ((o : Origin) → outcome (Received r) n′ f′ v′ d′ o ≡ rewritten p o (held n′ f′)) → (o : Origin) → lent n′ f′ v′ d′ o ≡ opened p o
     unfolding opened
-    refreshed v′ d′ r e =
-        ap (λ (o : Outcome). o .state) (rewritten-of p (fresh (p .sizes)) n′ f′ v′ d′ r (fresh-numbers n′ a) (all-zero f′ b) e)
-        ∙ ap (λ (l : List ℕ). record { known = fresh (p .sizes); valuation = valuation-of p (fresh (p .sizes)); verdicts = l }) (sym (blank-sheet p))
+    refreshed v′ d′ r e o =
+        ap (λ (q : Outcome). q .state) (rewritten-of p o (fresh (p .sizes)) n′ f′ v′ d′ r (fresh-numbers n′ a) (all-zero f′ b) (e o))
+        ∙ ap (λ (l : List ℕ). record { known = fresh (p .sizes); valuation = valuation-of p (fresh (p .sizes)); verdicts = l; origin = o }) (sym (blank-sheet p))

@@ -27,7 +27,7 @@ use Rattle.knowledge.specs.Laws.{Limits, sound-law}
 use Rattle.knowledge.specs.Store.{store-long}
 use Rattle.knowledge.specs.Run.{held}
 use Rattle.monitor.specs.declared.Answer.the-variants.{Refused}
-use Rattle.monitor.specs.State.{State, Outcome, lent, Sized, rewritten, take-message}
+use Rattle.monitor.specs.State.{State, Outcome, lent, Sized-sheets, rewritten, take-message}
 use Rattle.monitor.specs.Storing.{said, Ranged, Stored, stored-as, stored-unless, store-message, sheets-after, settle-message}
 use Rattle.monitor.specs.Laws.{knowledge-sized}
 use Rattle.monitor.proofs.Settling.{limits}
@@ -89,25 +89,25 @@ ranged z l b e =
 
 module _ (p : Policy) (x : State) (d : Decoded) (n f : List ℕ) (a : Checked) (e : stored-as a n f ≡ store-message (p .sizes) (x .known) d) where
   pub settle-refused : (r : Refusal) → a ≡ C.Refused r
-      → record { answer = Refused r; state = lent n f (x .valuation) (x .verdicts) } ≡ settle-message p x d
+      → record { answer = Refused r; state = lent n f (x .valuation) (x .verdicts) (x .origin) } ≡ settle-message p x d
   settle-refused r h =
       let s : store-message (p .sizes) (x .known) d .answer ≡ C.Refused r = ap (λ (y : Stored). y .answer) (sym e) ∙ h in
       let k : held n f ≡ x .known = ap (λ (y : Stored). y .known) e ∙ refusal-keeps (p .sizes) (x .known) d r s in
-      ap (λ (y : Knowledge). record { answer = Refused r; state = record { known = y; valuation = x .valuation; verdicts = x .verdicts } }) k
+      ap (λ (y : Knowledge). record { answer = Refused r; state = record { known = y; valuation = x .valuation; verdicts = x .verdicts; origin = x .origin } }) k
       ∙ sym (ap (λ (c : Checked). sheets-after p x c (store-message (p .sizes) (x .known) d .known)) s)
 
-  pub settle-taken : (o : Outcome) → a ≡ C.Accepted → o ≡ rewritten p (held n f) → o ≡ settle-message p x d
+  pub settle-taken : (o : Outcome) → a ≡ C.Accepted → o ≡ rewritten p (x .origin) (held n f) → o ≡ settle-message p x d
   settle-taken o h g = g ∙ sym (ap (λ (c : Checked). sheets-after p x c (held n f)) h) ∙ ap (λ (y : Stored). sheets-after p x (y .answer) (y .known)) e
 
-  -- what the sheets need
-  pub settle-needs : Sized p x → Sound (p .sizes) (x .known) → Ranged (p .sizes) d
-      → Sized p (lent n f (x .valuation) (x .verdicts)) × Sound (p .sizes) (held n f)
-  settle-needs z s r =
-      let k : store-message (p .sizes) (x .known) d .known ≡ held n f = ap (λ (y : Stored). y .known) (sym e) in
-      let l : Long (p .sizes) (held n f) = subst (Long (p .sizes)) k (still-long (p .sizes) (x .known) d (knowledge-sized p x z) r) in (
-        record { numbers = l .numbers; facts = l .facts; valuation = z .valuation; verdicts = z .verdicts },
-        subst (Sound (p .sizes)) k (still-sound (p .sizes) (x .known) d s),
-      )
+-- what the sheets need
+pub settle-needs : (p : Policy) (k : Knowledge) (v w : List ℕ) (d : Decoded) (n f : List ℕ) (a : Checked) → stored-as a n f ≡ store-message (p .sizes) k d
+    → Sized-sheets p k v w → Sound (p .sizes) k → Ranged (p .sizes) d → Sized-sheets p (held n f) v w × Sound (p .sizes) (held n f)
+settle-needs p k v w d n f a e z s r =
+    let q : store-message (p .sizes) k d .known ≡ held n f = ap (λ (y : Stored). y .known) (sym e) in
+    let l : Long (p .sizes) (held n f) = subst (Long (p .sizes)) q (still-long (p .sizes) k d (knowledge-sized p z) r) in (
+      record { numbers = l .numbers; facts = l .facts; valuation = z .valuation; verdicts = z .verdicts },
+      subst (Sound (p .sizes)) q (still-sound (p .sizes) k d s),
+    )
 
 -- a take of bytes that stand alone is that of what was read
 module _ (p : Policy) (x : State) (b : List ℕ) where
@@ -126,16 +126,28 @@ module _ (p : Policy) (x : State) (b : List ℕ) where
               ∙ message-conflict p x b _ _ (hear (p .sizes) b (decode-of (p .sizes) b) refl e) f
           test true f =
               let next = stored (p .sizes) (x .known) (said (decode-of (p .sizes) b)) in
-              sym (settle-taken p x (decode-of (p .sizes) b) (next .numbers) (next .facts) _ (store-taken (p .sizes) (x .known) (decode-of (p .sizes) b) next e f refl) (rewritten p next) e refl)
-              ∙ message-taken p x b _ _ (hear (p .sizes) b (decode-of (p .sizes) b) refl e) (rewritten p next) f refl
+              sym (settle-taken p x (decode-of (p .sizes) b) (next .numbers) (next .facts) _ (store-taken (p .sizes) (x .known) (decode-of (p .sizes) b) next e f refl) (rewritten p (x .origin) next) e refl)
+              ∙ message-taken p x b _ _ (hear (p .sizes) b (decode-of (p .sizes) b) refl e) (rewritten p (x .origin) next) f refl
 
-  module _ (first : Step) (r : first ≡ step-of (first-of (p .sizes) b) (rest-of b)) where
-    left : first .left ≡ length (rest-of b)
-    left = ap (λ (y : Step). y .left) r
+module _ (p : Policy) (b : List ℕ) (first : Step) (r : first ≡ step-of (first-of (p .sizes) b) (rest-of b)) where
+  left : first .left ≡ length (rest-of b)
+  left = ap (λ (y : Step). y .left) r
 
-    pub left-in : first .left ≤ length b
-    left-in = omega (arith, left, length-drop (used-of b) b)
+  pub left-in : first .left ≤ length b
+  left-in = omega (arith, left, length-drop (used-of b) b)
 
+  -- what was read is the message alone, where nothing follows it
+  pub read-alone : first .left ≡ 0 → first .decoded ≡ decode-of (p .sizes) b
+  read-alone e = ap (λ (y : Step). y .decoded) r ∙ sym (single (p .sizes) b .empty (nothing (rest-of b) (sym left ∙ e)))
+    where
+      nothing : (l : List ℕ) → length l ≡ 0 → l ≡ []
+      nothing [] h = refl
+      nothing (y ∷ ys) h = absurd (omega arith)
+
+  pub read-ranged : Proper p → first .left ≡ 0 → Ranged (p .sizes) (first .decoded)
+  read-ranged q e = subst (Ranged (p .sizes)) (sym (read-alone e)) (ranged (p .sizes) (limits p q) b)
+
+  module _ (x : State) where
     -- 7, where bytes follow it
     pub take-followed : (first .left ≡ 0 → ⊥) → record { answer = Refused (TruncatedMessage (length b - first .left)); state = x } ≡ take-message p x b
     take-followed n =
@@ -147,16 +159,5 @@ module _ (p : Policy) (x : State) (b : List ℕ) where
         message-refused p x b (TruncatedMessage (length b - first .left))
         (sym (decoded-answer (p .sizes) b) ∙ ap (λ (y : Decoded). y .answer) d ∙ ap (λ (m : ℕ). C.Refused (TruncatedMessage m)) (sym u))
 
-    -- what was read is the message alone, where nothing follows it
-    pub read-alone : first .left ≡ 0 → first .decoded ≡ decode-of (p .sizes) b
-    read-alone e = ap (λ (y : Step). y .decoded) r ∙ sym (single (p .sizes) b .empty (nothing (rest-of b) (sym left ∙ e)))
-      where
-        nothing : (l : List ℕ) → length l ≡ 0 → l ≡ []
-        nothing [] h = refl
-        nothing (y ∷ ys) h = absurd (omega arith)
-
-    pub read-ranged : Proper p → first .left ≡ 0 → Ranged (p .sizes) (first .decoded)
-    read-ranged q e = subst (Ranged (p .sizes)) (sym (read-alone e)) (ranged (p .sizes) (limits p q) b)
-
     pub take-alone : (o : Outcome) → first .left ≡ 0 → o ≡ settle-message p x (first .decoded) → o ≡ take-message p x b
-    take-alone o e f = f ∙ ap (settle-message p x) (read-alone e) ∙ take-read
+    take-alone o e f = f ∙ ap (settle-message p x) (read-alone e) ∙ take-read p x b

@@ -1,8 +1,8 @@
 -- What was demanded, as types. Read this file first; each statement stands below the sentence that it formalises. `demand-1`, `demand-2`,
--- `demand-3`, `packets`, `demand-3-packets`, `writers` and `time-points` of the crate demands have these types.
+-- `demand-3`, `packets`, `demand-3-packets`, `writers`, `time-points` and `one-policy` of the crate demands have these types.
 --
--- s are the bytes of a card, any bytes; `policy-of s` is what they say where they are accepted. x is a state: the four lent buffers, of any
--- length and content. b are the bytes of a slip, any bytes; where packets are spoken of, b are the bytes of a packet and m those of a slip in it.
+-- s are the bytes of a card, any bytes; `policy-of s` is what they say where they are accepted. x is a state: the lent buffers, of any length and
+-- content, and the lent number. b are the bytes of a slip, any bytes; where packets are spoken of, b are the bytes of a packet and m those of a slip in it.
 use Prim.Native.Nat.{ℕ, _+_, _*_, _≤_, _<_}
 use mathlib.Core.Path.{_≡_}
 use mathlib.Core.Bool.{Bool, true, false, cond}
@@ -46,6 +46,7 @@ use Rattle.monitor.specs.declared.Look.the-variants as L
 use Rattle.monitor.specs.Lookup.{lookup-of}
 use Rattle.monitor.specs.declared.Stop.{Stop}
 use Rattle.monitor.specs.declared.Stop.the-variants as P
+use Rattle.origin.specs.Origin.{origin-of, same-bytes, Holds-card}
 use Rattle.monitor.specs.State.{State, Outcome, Sized, open-state, receive, Packet-outcome, take-each, receive-packet, Call, Receive, run-calls, after, Taken, accepted-from, accepted, Offered, Entry, Single, Packet, offers-each, run-entries, accepted-entries, takes-entries}
 
 -- ---- words
@@ -130,24 +131,28 @@ pub record Opening-causes (s : List ℕ) (x : State) (o : Outcome) : Type 0 wher
   pub done : (o .answer ≡ Done) ↔ (Policy-passed s × Sized (policy-of s) x)
   pub unwritten : (r : Refusal) → o .answer ≡ Refused r → o .state ≡ x
 
--- the checks 1 to 6 let the card and the record pass
+-- the checks 1 to 6, and 12 between 5 and 6, let the card and the record pass
 pub record Passed (s : List ℕ) (x : State) : Type 0 where
   pub policy : Policy-passed s
   pub sized : Sized (policy-of s) x
+  pub origin : x .origin ≡ origin-of s
   pub sound : Sound (sizes-of s) (x .known)
 
--- a take, whose outcome is o: 1 to 9
+-- a take, whose outcome is o: 1 to 9, and 12 (02, request 5): "12, other card, after 5 and before 6, when the stored length or any of the 517 bytes isn't
+-- what opening that card writes; 5 covers the new buffer" (Sized)
 pub record Take-causes (s : List ℕ) (x : State) (b : List ℕ) (o : Outcome) : Type 0 where
   pub policy : Policy-causes s (reply (o .answer))
   pub five : (at : ℕ) → Refused-with (reply (o .answer)) 5 at ↔ ((at ≡ 0) × Policy-passed s × (Sized (policy-of s) x → ⊥))
+  pub twelve : (at : ℕ) → Refused-with (reply (o .answer)) 12 at
+      ↔ ((at ≡ 0) × Policy-passed s × Sized (policy-of s) x × (x .origin ≡ origin-of s → ⊥))
   pub six : (at : ℕ) → Refused-with (reply (o .answer)) 6 at
-      ↔ ((at ≡ 0) × Policy-passed s × Sized (policy-of s) x × (Sound (sizes-of s) (x .known) → ⊥))
+      ↔ ((at ≡ 0) × Policy-passed s × Sized (policy-of s) x × (x .origin ≡ origin-of s) × (Sound (sizes-of s) (x .known) → ⊥))
   pub seven : (at : ℕ) → Refused-with (reply (o .answer)) 7 at ↔ (Passed s x × Cut-message b at)
   pub eight : (at : ℕ) → Refused-with (reply (o .answer)) 8 at
       ↔ ((at ≡ 0) × Passed s x × (length b ≡ length-of b) × (Is-message (sizes-of s) b → ⊥))
   pub nine : (at : ℕ) → Refused-with (reply (o .answer)) 9 at
       ↔ ((at ≡ 0) × Passed s x × Well-formed (sizes-of s) b × (Some-trace (sizes-of s) (x .known) (meaning-of b) → ⊥))
-  pub no-other : (n at : ℕ) → Refused-with (reply (o .answer)) n at → (1 ≤ n) × (n ≤ 9)
+  pub no-other : (n at : ℕ) → Refused-with (reply (o .answer)) n at → ((1 ≤ n) × (n ≤ 9)) ⊎ (n ≡ 12)
   pub taken : Taken (o .answer) ↔ (Passed s x × Well-formed (sizes-of s) b × Some-trace (sizes-of s) (x .known) (meaning-of b))
   pub unwritten : (r : Refusal) → o .answer ≡ Refused r → o .state ≡ x
 
@@ -186,8 +191,8 @@ pub record Demand-1 : Type 0 where
 -- ---- the opening
 
 -- "Opening makes a fresh record: only each first count is known, as 0; no facts; the verdict sheet is blank and the work sheet holds the reading over
--- that record"
-pub record Opened (p : Policy) (x : State) : Type 0 where
+-- that record". "Opening writes both": the buffer and the number of 02, request 5
+pub record Opened (s : List ℕ) (p : Policy) (x : State) : Type 0 where
   pub sized : Sized p x
   pub first-number : (c : ℕ) → c < p .sizes .components → number (p .sizes) (x .known) c 0 ≡ 0
   pub other-number : (c q : ℕ) → c < p .sizes .components → 0 < q → q ≤ p .sizes .minutes → number (p .sizes) (x .known) c q ≡ none
@@ -195,6 +200,9 @@ pub record Opened (p : Policy) (x : State) : Type 0 where
   pub blank : (r t : ℕ) → shown p x r t ≡ 0
   pub valuation : (l t : ℕ) → l < p .count → t < p .sizes .minutes
       → getD (x .valuation) (l * p .sizes .minutes + t) 0 ≡ code-of (value p (x .known) l t)
+  -- they hold the card s, as `origin-of` says and as 02's words say
+  pub origin : x .origin ≡ origin-of s
+  pub holds : Holds-card s (x .origin)
 
 -- ---- demand 2
 
@@ -206,10 +214,12 @@ pub record Gains (z : Sizes) (k k′ : Knowledge) (m : Message) : Type 0 where
   pub fact-kept : (i t : ℕ) → i < 32 → ((b : Bool) → Fixes-fact (m .event) i t b → ⊥) → (noted k′ i t ≡ noted k i t) × (valued k′ i t ≡ valued k i t)
 
 pub record Demand-2 : Type 0 where
-  pub opening : (s : List ℕ) (x : State) → open-state s x .answer ≡ Done → Opened (policy-of s) (open-state s x .state)
+  pub opening : (s : List ℕ) (x : State) → open-state s x .answer ≡ Done → Opened s (policy-of s) (open-state s x .state)
   -- "After every accepted slip the sheet shows .." (Sheets), over the record with what the slip fixes
   pub sheets : (s : List ℕ) (x : State) (b : List ℕ) → Taken (receive s x b .answer) → Sheets (policy-of s) (receive s x b .state)
   pub gains : (s : List ℕ) (x : State) (b : List ℕ) → Taken (receive s x b .answer) → Gains (sizes-of s) (x .known) (receive s x b .state .known) (meaning-of b)
+  -- no take writes the card that the record was opened under
+  pub origin : (s : List ℕ) (x : State) (b : List ℕ) → receive s x b .state .origin ≡ x .origin
   -- "a take also gives how many verdicts stand": the total "equals the non-blank cells"
   pub total : (s : List ℕ) (x : State) (b : List ℕ) → Taken (receive s x b .answer)
       → receive s x b .answer ≡ Received (standing (receive s x b .state .verdicts))
@@ -242,7 +252,8 @@ pub record Same (s : List ℕ) (x y : State) (xs ys : List Call) : Type 0 where
   pub sheets : Sheets (policy-of s) (after s x xs)
 
 -- "For every list of takes, refused ones included, from a fresh record under one card": right after an opening that answered done, whatever
--- the buffers x held before
+-- the buffers x held before. 02, request 5: "Order-freeness is wanted for records opened under the card that is lent"; the record has the new buffer and
+-- the new number, and these are of the state too
 pub record Demand-3 : Type 0 where
   -- "a slip is accepted exactly when it is well-formed and some one shift could have sent it and every slip accepted before it"
   pub accept : (s : List ℕ) (x : State) → open-state s x .answer ≡ Done → (cs : List Call) (b : List ℕ)
@@ -290,10 +301,10 @@ pub record Comes-to (s : List ℕ) (x : State) (b m : List ℕ) (at : ℕ) (y : 
   pub starts : at ≡ bytes-in before
   pub state : y ≡ run-calls s x (map Receive before)
 
--- a packet, whose outcome is o: 1 to 9
+-- a packet, whose outcome is o: 1 to 9, and 12
 pub record Packet-causes (s : List ℕ) (x : State) (b : List ℕ) (o : Packet-outcome) : Type 0 where
-  -- "checks 1 to 6 as a take does", whatever its message: "those checked before 7 keep their places"
-  pub first-six : (m : List ℕ) (n at : ℕ) → n ≤ 6 → Stopped-with (o .answer .stop) n at ↔ Refused-with (reply (receive s x m .answer)) n at
+  -- "checks 1 to 6 as a take does", and 12 with them, whatever its message: "those checked before 7 keep their places"
+  pub first-six : (m : List ℕ) (n at : ℕ) → (n ≤ 6) ⊎ (n ≡ 12) → Stopped-with (o .answer .stop) n at ↔ Refused-with (reply (receive s x m .answer)) n at
   -- 7: the packet ends inside a message, so that its place is the packet's length
   pub seven : (at : ℕ) → Stopped-with (o .answer .stop) 7 at
       ↔ (Passed s x × (at ≡ length b) × ((m : List ℕ) × (start : ℕ) × (y : State) × Comes-to s x b m start y × (length m < length-of m)))
@@ -303,7 +314,7 @@ pub record Packet-causes (s : List ℕ) (x : State) (b : List ℕ) (o : Packet-o
   pub nine : (at : ℕ) → Stopped-with (o .answer .stop) 9 at
       ↔ (Passed s x × ((m : List ℕ) × (y : State) × Comes-to s x b m at y × Well-formed (sizes-of s) m
       × (Some-trace (sizes-of s) (y .known) (meaning-of m) → ⊥)))
-  pub no-other : (n at : ℕ) → Stopped-with (o .answer .stop) n at → (1 ≤ n) × (n ≤ 9)
+  pub no-other : (n at : ℕ) → Stopped-with (o .answer .stop) n at → ((1 ≤ n) × (n ≤ 9)) ⊎ (n ≡ 12)
   pub at-end : (o .answer .stop ≡ P.AtEnd) ↔ (Passed s x × Each-taken s x (messages-of b))
   -- "It gives the number taken"
   pub taken : o .answer .taken ≡ length (accepted-from s x (offers-each s x (messages-of b)))
@@ -318,7 +329,7 @@ pub record Packets : Type 0 where
   -- the byte strings of a packet stand in it end to end, and no other list of them does
   pub cut : (b : List ℕ) (ms : List (List ℕ)) → Packed b ms ↔ (ms ≡ messages-of b)
   pub causes : (s : List ℕ) (x : State) (b : List ℕ) → Packet-causes s x b (receive-packet s x b)
-  -- a packet with a message is take after take and nothing else: the checks 1 to 6 are then its first take's
+  -- a packet with a message is take after take and nothing else: the checks 1 to 6 and 12 are then its first take's
   pub plain : (s : List ℕ) (x : State) (b : List ℕ) → 0 < length b → receive-packet s x b ≡ take-each s x 0 0 (messages-of b)
   -- "and leaves everything as the same takes one by one would"
   pub state : (s : List ℕ) (x : State) (b : List ℕ) → receive-packet s x b .state ≡ run-calls s x (offers-each s x (messages-of b))
@@ -421,3 +432,68 @@ pub record Time-points : Type 0 where
   pub quiet : (s : List ℕ) (x : State) → open-state s x .answer ≡ Done → (cs : List Call) (t : ℕ) → t < sizes-of s .minutes
       → Known-none (sizes-of s) (after s x cs .known) t
       ↔ ((w : Trace (sizes-of s)) → Admits-all (sizes-of s) w (accepted s x cs) → time-point (sizes-of s) w t ≡ false)
+
+-- ---- one record, one card (02, request 5)
+
+-- "Users swap cards at lunch and lend yesterday's record." A list of openings, takes and packets in which each call is lent a card of its own, s, and the
+-- state as the last call left it
+pub data Lending : Type 0 where
+  Opening : List ℕ → Lending
+  -- a take of a slip, and a packet, each after its card
+  Taking : List ℕ → List ℕ → Lending
+  Packing : List ℕ → List ℕ → Lending
+
+abbrev pub lending-state : State → Lending → State
+lending-state x (Opening s) = open-state s x .state
+lending-state x (Taking s b) = receive s x b .state
+lending-state x (Packing s b) = receive-packet s x b .state
+
+abbrev pub run-lendings : State → List Lending → State
+run-lendings x [] = x
+run-lendings x (c ∷ cs) = run-lendings (lending-state x c) cs
+
+-- no opening of the list is done, from x on
+abbrev pub None-done : State → List Lending → Type 0
+None-done x cs = (us : List Lending) (s : List ℕ) (vs : List Lending) → cs ≡ us ++ (Opening s ∷ vs) → open-state s (run-lendings x us) .answer ≡ Done → ⊥
+
+-- the last opening of the list that is done is under the card s
+pub record Last-done (x : State) (cs : List Lending) (s : List ℕ) : Type 0 where
+  pub before : List Lending
+  pub behind : List Lending
+  pub cut : cs ≡ before ++ (Opening s ∷ behind)
+  pub done : open-state s (run-lendings x before) .answer ≡ Done
+  pub none-later : None-done (open-state s (run-lendings x before) .state) behind
+
+-- the call is let past 12: none of the checks up to it, 1 to 5 and 12, refuses it
+abbrev pub Past-twelve : Checked → Type 0
+Past-twelve a = (n at : ℕ) → Refused-with a n at → (6 ≤ n) × (n ≢ 12)
+
+-- and the same of a packet
+abbrev pub Stopped-past-twelve : Stop → Type 0
+Stopped-past-twelve e = (n at : ℕ) → Stopped-with e n at → (6 ≤ n) × (n ≢ 12)
+
+-- those takes and packets of a list that are lent the card r
+abbrev pub own : List ℕ → List Lending → List Entry
+own r [] = []
+own r (Opening s ∷ cs) = own r cs
+own r (Taking s b ∷ cs) = cond (same-bytes s r) (Single (Receive b) ∷ own r cs) (own r cs)
+own r (Packing s b ∷ cs) = cond (same-bytes s r) (Packet b ∷ own r cs) (own r cs)
+
+pub record One-policy : Type 0 where
+  -- in demand 3's lists, where every take is lent the card of the opening, 12 is never answered: what is refused there is refused with 7, 8 or 9
+  pub takes : (s : List ℕ) (x : State) → open-state s x .answer ≡ Done → (cs : List Call) (b : List ℕ) (n at : ℕ)
+      → Refused-with (reply (receive s (after s x cs) b .answer)) n at → (7 ≤ n) × (n ≤ 9)
+  pub packets : (s : List ℕ) (x : State) → open-state s x .answer ≡ Done → (es : List Entry) (b : List ℕ) (n at : ℕ)
+      → Stopped-with (receive-packet s (after-entries s x es) b .answer .stop) n at → (7 ≤ n) × (n ≤ 9)
+  -- in any list, from any buffers, some opening that is done is the last, or none is
+  pub opened : (x : State) (cs : List Lending) → ((r : List ℕ) × Last-done x cs r) ⊎ None-done x cs
+  -- a take, or a packet, is let past 12 exactly when the last opening that was done was under the card that it is lent
+  pub past : (x : State) (cs : List Lending) (r : List ℕ) → Last-done x cs r → (s b : List ℕ)
+      → Past-twelve (reply (receive s (run-lendings x cs) b .answer)) ↔ (s ≡ r)
+  pub past-packet : (x : State) (cs : List Lending) (r : List ℕ) → Last-done x cs r → (s b : List ℕ)
+      → Stopped-past-twelve (receive-packet s (run-lendings x cs) b .answer .stop) ↔ (s ≡ r)
+  -- where none was done, buffer and number are what they were before the list
+  pub untouched : (x : State) (cs : List Lending) → None-done x cs → run-lendings x cs .origin ≡ x .origin
+  -- what is lent another card changes nothing: the state is that after the last opening's own takes and packets, of which demand 3 speaks
+  pub own-calls : (x : State) (cs : List Lending) (r : List ℕ) (l : Last-done x cs r)
+      → run-lendings x cs ≡ after-entries r (run-lendings x (l .before)) (own r (l .behind))

@@ -25,7 +25,8 @@ use Rattle.policy.specs.Proper.{rules-of}
 use Rattle.knowledge.specs.Knowledge.{Knowledge, none, noted, valued, number, Sound, is-point, fresh, Sized as Long}
 use Rattle.knowledge.specs.Laws.{point-law, sound-law}
 use Rattle.valuation.specs.Sheets.{value, verdict, valuation-of, verdicts-of}
-use Rattle.monitor.specs.State.{State, unless, Sized, sizes-fit, sized, over, settled, slip-checks, take-message, record-checks, opening-checks, receive}
+use Rattle.origin.specs.Origin.{Origin, origin-of, under-law}
+use Rattle.monitor.specs.State.{State, unless, Sized-sheets, Sized, sizes-fit, sized, over, settled, slip-checks, take-message, record-checks, origin-checks, opening-checks, receive}
 
 pub sized-law : (p : Policy) (x : State) → (sized p x ≡ true) ↔ Sized p x
 unfolding sizes-fit
@@ -36,14 +37,20 @@ sized-law p x = (there, back)
         let f = both _ _ e in
         let g = both _ _ (f .1) in
         let h = both _ _ (g .1) in
-        record { numbers = eqb-true _ _ (f .0); facts = eqb-true _ _ (g .0); valuation = eqb-true _ _ (h .0); verdicts = eqb-true _ _ (h .1) }
+        let k = both _ _ (h .1) in
+        record {
+          sheets = record { numbers = eqb-true _ _ (f .0); facts = eqb-true _ _ (g .0); valuation = eqb-true _ _ (h .0); verdicts = eqb-true _ _ (k .0) };
+          origin = eqb-true _ _ (k .1);
+        }
 
     back : Sized p x → sized p x ≡ true
-    back z = pair (eq-eqb _ _ (z .numbers)) (pair (eq-eqb _ _ (z .facts)) (pair (eq-eqb _ _ (z .valuation)) (eq-eqb _ _ (z .verdicts))))
+    back z =
+        let w = z .sheets in
+        pair (eq-eqb _ _ (w .numbers)) (pair (eq-eqb _ _ (w .facts)) (pair (eq-eqb _ _ (w .valuation)) (pair (eq-eqb _ _ (w .verdicts)) (eq-eqb _ _ (z .origin)))))
 
 module _ (c : Policy) where
-  pub knowledge-sized : (x : State) → Sized c x → Long (c .sizes) (x .known)
-  knowledge-sized x z = record { numbers = z .numbers; facts = z .facts }
+  pub knowledge-sized : {k : Knowledge} {v d : List ℕ} → Sized-sheets c k v d → Long (c .sizes) k
+  knowledge-sized z = record { numbers = z .numbers; facts = z .facts }
 
   pub sheet-lengths : (k : Knowledge) → (length (valuation-of c k) ≡ c .count * c .sizes .minutes) × (length (verdicts-of c k) ≡ c .rules * c .sizes .minutes)
   unfolding valuation-of verdicts-of
@@ -122,22 +129,32 @@ module _ (c : Policy) where
 
 -- ---- a take whose first checks pass
 
-module _ (s : List ℕ) (x : State) (card : answer-of s ≡ C.Accepted) (z : Sized (policy-of s) x) (k : Sound (policy-of s .sizes) (x .known)) where
-  pub first-pass : first-failed (record-checks s (x .known) (length (x .valuation)) (length (x .verdicts))) ≡ C.Accepted
+module _ (s : List ℕ) (x : State) (card : answer-of s ≡ C.Accepted) (z : Sized (policy-of s) x) (o : x .origin ≡ origin-of s)
+    (k : Sound (policy-of s .sizes) (x .known)) where
+  -- 1 to 5, and 12
+  pub origin-pass : first-failed (origin-checks s x) ≡ C.Accepted
   unfolding answer-of
-  first-pass =
-      passing-law (record-checks s (x .known) (length (x .valuation)) (length (x .verdicts))) .1
+  origin-pass =
+      passing-law (origin-checks s x) .1
       (passed-both (opening-checks s x) _ (passed-both (policy-checks s) _ (passing-law (policy-checks s) .0 card)
-      (pass (sized-law (policy-of s) x .1 z) none-left)) (pass (sound-law (policy-of s .sizes) (x .known) .1 k) none-left))
+      (pass (sized-law (policy-of s) x .1 z) none-left)) (pass (under-law s (x .origin) .1 o) none-left))
+
+  pub first-pass : first-failed (record-checks s x) ≡ C.Accepted
+  first-pass =
+      passing-law (record-checks s x) .1
+      (passed-both (origin-checks s x) _ (passing-law (origin-checks s x) .0 origin-pass) (pass (sound-law (policy-of s .sizes) (x .known) .1 k) none-left))
 
   -- it is that of its message
   pub plain-take : (b : List ℕ) → receive s x b ≡ take-message (policy-of s) x b
   unfolding receive
   plain-take b =
       ap (λ (c : Checked). unless c x (settled (policy-of s) x (meaning-of b)))
-      (in-order (record-checks s (x .known) (length (x .valuation)) (length (x .verdicts))) (slip-checks (policy-of s) x b)
+      (in-order (record-checks s x) (slip-checks (policy-of s) x b)
       ∙ ap (λ (a : Checked). and-then a (first-failed (slip-checks (policy-of s) x b))) first-pass)
 
--- the state over sound knowledge of its sizes is of its sizes too
-pub over-sized : (p : Policy) (k : Knowledge) → Long (p .sizes) k → Sized p (over p k)
-over-sized p k l = record { numbers = l .numbers; facts = l .facts; valuation = sheet-lengths p k .0; verdicts = sheet-lengths p k .1 }
+-- the state over knowledge of its sizes is of its sizes too
+pub over-sized : (p : Policy) (o : Origin) (k : Knowledge) → length (o .bytes) ≡ 517 → Long (p .sizes) k → Sized p (over p o k)
+over-sized p o k e l = record {
+  sheets = record { numbers = l .numbers; facts = l .facts; valuation = sheet-lengths p k .0; verdicts = sheet-lengths p k .1 };
+  origin = e;
+}

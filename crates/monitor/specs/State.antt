@@ -6,7 +6,7 @@ use mathlib.Core.List.{List, [], _∷_, _++_, map, List·Memᴰ}
 use lib.Dec.{eqb}
 use lib.ListN.{length, replicate, take}
 use Rattle.refusal.specs.declared.Refusal.{Refusal}
-use Rattle.refusal.specs.declared.Refusal.the-variants.{BufferSize, CorruptKnowledge, Conflict}
+use Rattle.refusal.specs.declared.Refusal.the-variants.{BufferSize, CorruptKnowledge, Conflict, OtherPolicy}
 use Rattle.refusal.specs.Numbers.{packet-place}
 use Rattle.policy.specs.declared.Policy.{Policy}
 use Rattle.refusal.specs.declared.Answer.{Answer as Checked}
@@ -19,11 +19,13 @@ use Rattle.knowledge.specs.Knowledge.{Knowledge, sound, fresh, stored, admits}
 use Rattle.valuation.specs.Sheets.{valuation-of, verdicts-of, standing}
 use Rattle.monitor.specs.declared.Answer.{Answer}
 use Rattle.monitor.specs.declared.Answer.the-variants.{Done, Received, Refused}
+use Rattle.monitor.specs.declared.Lengths.{Lengths}
 use Rattle.monitor.specs.declared.PacketAnswer.{PacketAnswer}
 use Rattle.monitor.specs.declared.Stop.{Stop}
 use Rattle.monitor.specs.declared.Stop.the-variants as P
+use Rattle.origin.specs.Origin.{Origin, origin-of, opened-under}
 
--- "Four lent buffers"
+-- "Four lent buffers", and what 02 adds to them. One that is added later joins this list, `lent` and, if it is a buffer, `lengths-of`
 pub record State : Type 0 where
   -- counts and facts
   pub known : Knowledge
@@ -31,10 +33,23 @@ pub record State : Type 0 where
   pub valuation : List ℕ
   -- the verdict sheet
   pub verdicts : List ℕ
+  -- the card it was opened under (02, request 5)
+  pub origin : Origin
 
 -- the lent buffers as a state
-abbrev pub lent : List ℕ → List ℕ → List ℕ → List ℕ → State
-lent numbers facts valuation verdicts = record { known = record { numbers = numbers; facts = facts }; valuation = valuation; verdicts = verdicts }
+abbrev pub lent : List ℕ → List ℕ → List ℕ → List ℕ → Origin → State
+lent numbers facts valuation verdicts origin =
+    record { known = record { numbers = numbers; facts = facts }; valuation = valuation; verdicts = verdicts; origin = origin }
+
+-- how long they are
+abbrev pub lengths-of : State → Lengths
+lengths-of x = record {
+  numbers = length (x .known .numbers);
+  facts = length (x .known .facts);
+  valuation = length (x .valuation);
+  verdicts = length (x .verdicts);
+  origin = length (x .origin .bytes);
+}
 
 -- what a call answers, and the state it leaves
 pub record Outcome : Type 0 where
@@ -42,8 +57,8 @@ pub record Outcome : Type 0 where
   pub state : State
 
 -- a call's answer, and its lent buffers as it returns
-abbrev pub outcome : Answer → List ℕ → List ℕ → List ℕ → List ℕ → Outcome
-outcome a numbers facts valuation verdicts = record { answer = a; state = lent numbers facts valuation verdicts }
+abbrev pub outcome : Answer → List ℕ → List ℕ → List ℕ → List ℕ → Origin → Outcome
+outcome a numbers facts valuation verdicts origin = record { answer = a; state = lent numbers facts valuation verdicts origin }
 
 -- "A refusal gives number and place and writes nothing": what a call does, unless one of its checks refuses it
 abbrev pub unless : Checked → State → Outcome → Outcome
@@ -51,43 +66,50 @@ unless C.Accepted x done = done
 unless (C.Refused r) x done = record { answer = Refused r; state = x }
 
 module _ (p : Policy) where
-  -- "Four lent buffers of exact size"
-  pub record Sized (x : State) : Type 0 where
-    pub numbers : length (x .known .numbers) ≡ p .sizes .components * suc (p .sizes .minutes)
-    pub facts : length (x .known .facts) ≡ 2 * p .sizes .minutes
-    pub valuation : length (x .valuation) ≡ p .count * p .sizes .minutes
-    pub verdicts : length (x .verdicts) ≡ p .rules * p .sizes .minutes
+  -- "Four lent buffers of exact size": the record and both sheets, which are all that most functions are lent
+  pub record Sized-sheets (k : Knowledge) (v d : List ℕ) : Type 0 where
+    pub numbers : length (k .numbers) ≡ p .sizes .components * suc (p .sizes .minutes)
+    pub facts : length (k .facts) ≡ 2 * p .sizes .minutes
+    pub valuation : length v ≡ p .count * p .sizes .minutes
+    pub verdicts : length d ≡ p .rules * p .sizes .minutes
 
-  -- the same as a test, of the four lengths
-  unfoldable pub sizes-fit : ℕ → ℕ → ℕ → ℕ → Bool
-  sizes-fit numbers facts valuation verdicts =
-      eqb numbers (p .sizes .components * suc (p .sizes .minutes))
-      && (eqb facts (2 * p .sizes .minutes)
-      && (eqb valuation (p .count * p .sizes .minutes)
-      && eqb verdicts (p .rules * p .sizes .minutes)))
+  -- and the buffer of 02, request 5, which has one size under every card
+  pub record Sized (x : State) : Type 0 where
+    pub sheets : Sized-sheets (x .known) (x .valuation) (x .verdicts)
+    pub origin : length (x .origin .bytes) ≡ 517
+
+  -- the same as a test, of the lengths
+  unfoldable pub sizes-fit : Lengths → Bool
+  sizes-fit l =
+      eqb (l .numbers) (p .sizes .components * suc (p .sizes .minutes))
+      && (eqb (l .facts) (2 * p .sizes .minutes)
+      && (eqb (l .valuation) (p .count * p .sizes .minutes)
+      && (eqb (l .verdicts) (p .rules * p .sizes .minutes)
+      && eqb (l .origin) 517)))
 
   abbrev pub sized : State → Bool
-  sized x = sizes-fit (length (x .known .numbers)) (length (x .known .facts)) (length (x .valuation)) (length (x .verdicts))
+  sized x = sizes-fit (lengths-of x)
 
   -- "Opening makes a fresh record; the verdict sheet is blank and the work sheet holds the reading over that record"
-  unfoldable pub opened : State
-  opened = record {
+  unfoldable pub opened : Origin → State
+  opened o = record {
     known = fresh (p .sizes);
     valuation = valuation-of p (fresh (p .sizes));
     verdicts = replicate (p .rules * p .sizes .minutes) 0;
+    origin = o;
   }
 
   -- the state over some knowledge: both sheets are the reading
-  abbrev pub over : Knowledge → State
-  over k = record { known = k; valuation = valuation-of p k; verdicts = verdicts-of p k }
+  abbrev pub over : Origin → Knowledge → State
+  over o k = record { known = k; valuation = valuation-of p k; verdicts = verdicts-of p k; origin = o }
 
   -- "An accepted slip makes known in the record all that it fixes"; both sheets "are rewritten whole"; "a take also gives how many
   -- verdicts stand"
-  abbrev pub rewritten : Knowledge → Outcome
-  rewritten k = record { answer = Received (standing (verdicts-of p k)); state = over k }
+  abbrev pub rewritten : Origin → Knowledge → Outcome
+  rewritten o k = record { answer = Received (standing (verdicts-of p k)); state = over o k }
 
   abbrev pub settled : State → Message → Outcome
-  settled x m = rewritten (stored (p .sizes) (x .known) m)
+  settled x m = rewritten (x .origin) (stored (p .sizes) (x .known) m)
 
   -- 7 and 8, then 9: "no shift fits record and slip"
   abbrev pub slip-checks : State → List ℕ → List Check
@@ -99,25 +121,28 @@ module _ (p : Policy) where
 -- ---- the calls, each with its checks in 01's order; s are the bytes of the card
 
 -- 1 to 4, then 5, from the buffers' lengths: every call that is lent a state starts with these
-abbrev pub size-checks : List ℕ → ℕ → ℕ → ℕ → ℕ → List Check
-size-checks s numbers facts valuation verdicts = policy-checks s ++ (check (sizes-fit (policy-of s) numbers facts valuation verdicts) BufferSize ∷ [])
-
--- "A call that is lent a record checks 1 to 6 as a take does"
-abbrev pub record-checks : List ℕ → Knowledge → ℕ → ℕ → List Check
-record-checks s k valuation verdicts =
-    size-checks s (length (k .numbers)) (length (k .facts)) valuation verdicts
-    ++ (check (sound (policy-of s .sizes) k) CorruptKnowledge ∷ [])
+abbrev pub size-checks : List ℕ → Lengths → List Check
+size-checks s l = policy-checks s ++ (check (sizes-fit (policy-of s) l) BufferSize ∷ [])
 
 -- "Opening stops after 5"
 abbrev pub opening-checks : List ℕ → State → List Check
-opening-checks s x = size-checks s (length (x .known .numbers)) (length (x .known .facts)) (length (x .valuation)) (length (x .verdicts))
+opening-checks s x = size-checks s (lengths-of x)
 
+-- "Opening writes both": the buffer and the number of 02, request 5
 unfoldable pub open-state : List ℕ → State → Outcome
-open-state s x = unless (first-failed (opening-checks s x)) x (record { answer = Done; state = opened (policy-of s) })
+open-state s x = unless (first-failed (opening-checks s x)) x (record { answer = Done; state = opened (policy-of s) (origin-of s) })
 
--- 1 to 4, "after it 5, 6, 7, 8, 9"
+-- "12, other card, after 5 and before 6"
+abbrev pub origin-checks : List ℕ → State → List Check
+origin-checks s x = opening-checks s x ++ (check (opened-under s (x .origin)) OtherPolicy ∷ [])
+
+-- "A call added later that is lent a record checks 1 to 6 as a take does", and 12 with them
+abbrev pub record-checks : List ℕ → State → List Check
+record-checks s x = origin-checks s x ++ (check (sound (policy-of s .sizes) (x .known)) CorruptKnowledge ∷ [])
+
+-- 1 to 4, "after it 5, 6, 7, 8, 9", with 12 between 5 and 6
 abbrev pub take-checks : List ℕ → State → List ℕ → List Check
-take-checks s x b = record-checks s (x .known) (length (x .valuation)) (length (x .verdicts)) ++ slip-checks (policy-of s) x b
+take-checks s x b = record-checks s x ++ slip-checks (policy-of s) x b
 
 unfoldable pub receive : List ℕ → State → List ℕ → Outcome
 receive s x b = unless (first-failed (take-checks s x b)) x (settled (policy-of s) x (meaning-of b))
@@ -129,8 +154,8 @@ pub record Packet-outcome : Type 0 where
   pub answer : PacketAnswer
   pub state : State
 
-abbrev pub packet-outcome : PacketAnswer → List ℕ → List ℕ → List ℕ → List ℕ → Packet-outcome
-packet-outcome a numbers facts valuation verdicts = record { answer = a; state = lent numbers facts valuation verdicts }
+abbrev pub packet-outcome : PacketAnswer → List ℕ → List ℕ → List ℕ → List ℕ → Origin → Packet-outcome
+packet-outcome a numbers facts valuation verdicts origin = record { answer = a; state = lent numbers facts valuation verdicts origin }
 
 -- "It gives the number taken, and the refusal": n are taken, and then the packet stops
 abbrev pub stopped : ℕ → Stop → State → Packet-outcome
@@ -161,8 +186,7 @@ unless-packet C.Accepted x done = done
 unless-packet (C.Refused r) x done = stopped 0 (refused-at 0 r) x
 
 unfoldable pub receive-packet : List ℕ → State → List ℕ → Packet-outcome
-receive-packet s x b =
-    unless-packet (first-failed (record-checks s (x .known) (length (x .valuation)) (length (x .verdicts)))) x (take-each s x 0 0 (messages-of b))
+receive-packet s x b = unless-packet (first-failed (record-checks s x)) x (take-each s x 0 0 (messages-of b))
 
 -- ---- lists of calls
 

@@ -55,7 +55,7 @@ store-message z k d = stored-unless (may-store z k d) k (stored z k (said d))
 
 -- then both sheets
 abbrev pub sheets-after : Policy → State → Checked → Knowledge → Outcome
-sheets-after p x C.Accepted k = rewritten p k
+sheets-after p x C.Accepted k = rewritten p (x .origin) k
 sheets-after p x (C.Refused r) k = record { answer = Refused r; state = x }
 
 abbrev pub settle-message : Policy → State → Decoded → Outcome
@@ -87,7 +87,7 @@ store-each z k n at (m ∷ ms) =
 
 -- the sheets, worked once where at least one was taken
 abbrev pub sheets-once : Policy → State → Stored-packet → Packet-outcome
-sheets-once p x o = record { answer = o .answer; state = cond (eqb (o .answer .taken) 0) x (over p (o .known)) }
+sheets-once p x o = record { answer = o .answer; state = cond (eqb (o .answer .taken) 0) x (over p (x .origin) (o .known)) }
 
 abbrev pub take-packet : Policy → State → List ℕ → Packet-outcome
 take-packet p x b = sheets-once p x (store-each (p .sizes) (x .known) 0 0 (messages-of b))

@@ -14,7 +14,8 @@ ghost use Rattle.message.specs.Format.{messages-of};
 ghost use Rattle.knowledge.specs.Knowledge.{none, Sound, Sized as Long};
 ghost use Rattle.knowledge.specs.Laws.{Limits};
 ghost use Rattle.knowledge.specs.Run.{held};
-ghost use Rattle.monitor.specs.State.{lent, outcome, Sized, sizes-fit, opened, rewritten, take-message, size-checks, record-checks, open-state, receive, packet-outcome, receive-packet};
+ghost use Rattle.origin.specs.Origin.{Origin, stamped};
+ghost use Rattle.monitor.specs.State.{lent, outcome, Sized-sheets, sizes-fit, opened, rewritten, take-message, size-checks, record-checks, open-state, receive, packet-outcome, receive-packet};
 ghost use Rattle.monitor.specs.Storing.{Ranged, stored-as, store-message, settle-message, stored-packet, store-each, take-packet};
 ghost use Rattle.monitor.specs.Checked.{Checks};
 ghost use Rattle.monitor.specs.Lookup.{verdict-of, look-at, lookup-of};
@@ -49,6 +50,15 @@ pub enum Stop {
 pub struct PacketAnswer {
     pub taken: usize,
     pub stop: Stop,
+}
+
+// How long the lent buffers are.
+struct Lengths {
+    numbers: usize,
+    facts: usize,
+    valuation: usize,
+    verdicts: usize,
+    origin: usize,
 }
 
 // What a code of the verdict sheet says.
@@ -100,33 +110,30 @@ pub fn lookup(policy: &[u8], verdicts: &[u8], rule: usize, minute: usize) -> Loo
 }
 
 // Are the lent buffers of the policy's sizes?
-fn fit(policy: Policy, numbers: usize, facts: usize, valuation: usize, verdicts: usize) -> bool
+fn fit(policy: Policy, lengths: Lengths) -> bool
     requires { ⌜ Proper policy ⌝ }
-    ensures { λ r. ⌜ r ≡ sizes-fit policy numbers facts valuation verdicts ⌝ }
+    ensures { λ r. ⌜ r ≡ sizes-fit policy lengths ⌝ }
 {
     let sizes = policy.sizes;
     let minutes = sizes.minutes;
-    if numbers != sizes.components * (minutes + 1) {
+    if lengths.numbers != sizes.components * (minutes + 1) {
         return false;
     }
-    if facts != 2 * minutes {
+    if lengths.facts != 2 * minutes {
         return false;
     }
-    if valuation != policy.count * minutes {
+    if lengths.valuation != policy.count * minutes {
         return false;
     }
-    verdicts == policy.rules * minutes
+    if lengths.verdicts != policy.rules * minutes {
+        return false;
+    }
+    lengths.origin == origin::LENGTH
 }
 
 // Reads the policy and checks the sizes of the lent buffers: 1 to 5, with which every call that is lent a state starts.
-fn check_sizes(
-    policy: &[u8],
-    numbers: usize,
-    facts: usize,
-    valuation: usize,
-    verdicts: usize,
-) -> Decoded
-    ensures { λ r. ⌜ Checks (size-checks (now (policy .entry)) numbers facts valuation verdicts) (now (policy .entry)) r ⌝ }
+fn check_sizes(policy: &[u8], lengths: Lengths) -> Decoded
+    ensures { λ r. ⌜ Checks (size-checks (now (policy .entry)) lengths) (now (policy .entry)) r ⌝ }
 {
     let decoded = policy::decode(policy);
     let answer = decoded.answer;
@@ -134,7 +141,7 @@ fn check_sizes(
         refusal::Answer::Refused(_) => decoded,
         refusal::Answer::Accepted => {
             let p = decoded.policy;
-            if !fit(p, numbers, facts, valuation, verdicts) {
+            if !fit(p, lengths) {
                 return Decoded {
                     answer: refusal::Answer::Refused(Refusal::BufferSize),
                     policy: p,
@@ -145,23 +152,40 @@ fn check_sizes(
     }
 }
 
-// And then that the lent record is sound: 1 to 6, with which every call that is lent a record starts.
+// And then that the lent record was opened under this policy and is sound: 1 to 5, 12 and 6, with which every call that is lent a record starts.
 fn check_record(
     policy: &[u8],
     numbers: &[u16],
     facts: &[u32],
-    valuation: usize,
-    verdicts: usize,
+    valuation: &[u8],
+    verdicts: &[u8],
+    origin: &[u8],
+    extent: u16,
 ) -> Decoded
-    ensures { λ r. ⌜ Checks (record-checks (now (policy .entry)) (held (now (numbers .entry)) (now (facts .entry))) valuation verdicts)
+    ensures { λ r. ⌜ Checks (record-checks (now (policy .entry)) (lent (now (numbers .entry)) (now (facts .entry)) (now (valuation .entry)) (now (verdicts .entry)) (stamped (now (origin .entry)) extent)))
         (now (policy .entry)) r ⌝ }
 {
-    let checked = check_sizes(policy, numbers.len(), facts.len(), valuation, verdicts);
+    let lengths = Lengths {
+        numbers: numbers.len(),
+        facts: facts.len(),
+        valuation: valuation.len(),
+        verdicts: verdicts.len(),
+        origin: origin.len(),
+    };
+    // Made first, and asked for in its turn: the loops over the record then keep their registers.
+    let own = origin::is_of(policy, origin, extent);
+    let checked = check_sizes(policy, lengths);
     let answer = checked.answer;
     match answer {
         refusal::Answer::Refused(_) => checked,
         refusal::Answer::Accepted => {
             let p = checked.policy;
+            if !own {
+                return Decoded {
+                    answer: refusal::Answer::Refused(Refusal::OtherPolicy),
+                    policy: p,
+                };
+            }
             let sizes = p.sizes;
             if !knowledge::is_sound(sizes, numbers, facts) {
                 return Decoded {
@@ -212,10 +236,10 @@ fn rewrite_sheets(
     verdicts: &mut [u8],
 ) -> usize
     requires { ⌜ (Proper policy)
-        × Sized policy (lent (now numbers) (now facts) (now valuation) (now verdicts))
+        × Sized-sheets policy (held (now numbers) (now facts)) (now valuation) (now verdicts)
         × Sound (policy .sizes) (held (now numbers) (now facts)) ⌝ }
-    ensures { λ r. ⌜ outcome (Answer.Received r) (now (numbers .entry)) (now (facts .entry)) (now (valuation .exit)) (now (verdicts .exit))
-        ≡ rewritten policy (held (now (numbers .entry)) (now (facts .entry))) ⌝ }
+    ensures { λ r. ⌜ ((o : Origin) → outcome (Answer.Received r) (now (numbers .entry)) (now (facts .entry)) (now (valuation .exit)) (now (verdicts .exit)) o
+        ≡ rewritten policy o (held (now (numbers .entry)) (now (facts .entry)))) ⌝ }
 {
     let sizes = policy.sizes;
     let points = knowledge::point_row(sizes, numbers);
@@ -231,9 +255,9 @@ fn refresh(
     valuation: &mut [u8],
     verdicts: &mut [u8],
 )
-    requires { ⌜ (Proper policy) × Sized policy (lent (now numbers) (now facts) (now valuation) (now verdicts)) ⌝ }
-    ensures { λ _. ⌜ lent (now (numbers .exit)) (now (facts .exit)) (now (valuation .exit)) (now (verdicts .exit))
-        ≡ opened policy ⌝ }
+    requires { ⌜ (Proper policy) × Sized-sheets policy (held (now numbers) (now facts)) (now valuation) (now verdicts) ⌝ }
+    ensures { λ _. ⌜ ((o : Origin) → lent (now (numbers .exit)) (now (facts .exit)) (now (valuation .exit)) (now (verdicts .exit)) o
+        ≡ opened policy o) ⌝ }
 {
     let sizes = policy.sizes;
     clear_numbers(numbers, sizes.minutes);
@@ -248,23 +272,27 @@ pub fn open(
     facts: &mut [u32],
     valuation: &mut [u8],
     verdicts: &mut [u8],
+    origin: &mut [u8],
+    extent: &mut u16,
 ) -> Answer
-    ensures { λ r. ⌜ outcome r (now (numbers .exit)) (now (facts .exit)) (now (valuation .exit)) (now (verdicts .exit))
-        ≡ open-state (now (policy .entry)) (lent (now (numbers .entry)) (now (facts .entry)) (now (valuation .entry)) (now (verdicts .entry))) ⌝ }
+    ensures { λ r. ⌜ outcome r (now (numbers .exit)) (now (facts .exit)) (now (valuation .exit)) (now (verdicts .exit)) (stamped (now (origin .exit)) (now (extent .exit)))
+        ≡ open-state (now (policy .entry)) (lent (now (numbers .entry)) (now (facts .entry)) (now (valuation .entry)) (now (verdicts .entry)) (stamped (now (origin .entry)) (now (extent .entry)))) ⌝ }
 {
-    let checked = check_sizes(
-        policy,
-        numbers.len(),
-        facts.len(),
-        valuation.len(),
-        verdicts.len(),
-    );
+    let lengths = Lengths {
+        numbers: numbers.len(),
+        facts: facts.len(),
+        valuation: valuation.len(),
+        verdicts: verdicts.len(),
+        origin: origin.len(),
+    };
+    let checked = check_sizes(policy, lengths);
     let answer = checked.answer;
     match answer {
         refusal::Answer::Refused(r) => Answer::Refused(r),
         refusal::Answer::Accepted => {
             let p = checked.policy;
             refresh(p, numbers, facts, valuation, verdicts);
+            origin::stamp(policy, origin, extent);
             Answer::Done
         }
     }
@@ -309,12 +337,12 @@ fn settle_message(
     verdicts: &mut [u8],
 ) -> Answer
     requires { ⌜ (Proper policy)
-        × Sized policy (lent (now numbers) (now facts) (now valuation) (now verdicts))
+        × Sized-sheets policy (held (now numbers) (now facts)) (now valuation) (now verdicts)
         × Sound (policy .sizes) (held (now numbers) (now facts))
         × Ranged (policy .sizes) decoded ⌝ }
-    ensures { λ r. ⌜ outcome r (now (numbers .exit)) (now (facts .exit)) (now (valuation .exit)) (now (verdicts .exit))
+    ensures { λ r. ⌜ ((o : Origin) → outcome r (now (numbers .exit)) (now (facts .exit)) (now (valuation .exit)) (now (verdicts .exit)) o
         ≡ settle-message policy
-        (lent (now (numbers .entry)) (now (facts .entry)) (now (valuation .entry)) (now (verdicts .entry))) decoded ⌝ }
+        (lent (now (numbers .entry)) (now (facts .entry)) (now (valuation .entry)) (now (verdicts .entry)) o) decoded) ⌝ }
 {
     let sizes = policy.sizes;
     let stored = store_message(sizes, decoded, numbers, facts);
@@ -337,11 +365,11 @@ fn take_message(
     verdicts: &mut [u8],
 ) -> Answer
     requires { ⌜ (Proper policy)
-        × Sized policy (lent (now numbers) (now facts) (now valuation) (now verdicts))
+        × Sized-sheets policy (held (now numbers) (now facts)) (now valuation) (now verdicts)
         × Sound (policy .sizes) (held (now numbers) (now facts)) ⌝ }
-    ensures { λ r. ⌜ outcome r (now (numbers .exit)) (now (facts .exit)) (now (valuation .exit)) (now (verdicts .exit))
+    ensures { λ r. ⌜ ((o : Origin) → outcome r (now (numbers .exit)) (now (facts .exit)) (now (valuation .exit)) (now (verdicts .exit)) o
         ≡ take-message policy
-        (lent (now (numbers .entry)) (now (facts .entry)) (now (valuation .entry)) (now (verdicts .entry))) (now (message .entry)) ⌝ }
+        (lent (now (numbers .entry)) (now (facts .entry)) (now (valuation .entry)) (now (verdicts .entry)) o) (now (message .entry))) ⌝ }
 {
     let sizes = policy.sizes;
     let first = message::first_step(message, sizes);
@@ -360,12 +388,14 @@ pub fn receive(
     facts: &mut [u32],
     valuation: &mut [u8],
     verdicts: &mut [u8],
+    origin: &mut [u8],
+    extent: &mut u16,
 ) -> Answer
-    ensures { λ r. ⌜ outcome r (now (numbers .exit)) (now (facts .exit)) (now (valuation .exit)) (now (verdicts .exit))
+    ensures { λ r. ⌜ outcome r (now (numbers .exit)) (now (facts .exit)) (now (valuation .exit)) (now (verdicts .exit)) (stamped (now (origin .exit)) (now (extent .exit)))
         ≡ receive (now (policy .entry))
-        (lent (now (numbers .entry)) (now (facts .entry)) (now (valuation .entry)) (now (verdicts .entry))) (now (message .entry)) ⌝ }
+        (lent (now (numbers .entry)) (now (facts .entry)) (now (valuation .entry)) (now (verdicts .entry)) (stamped (now (origin .entry)) (now (extent .entry)))) (now (message .entry)) ⌝ }
 {
-    let checked = check_record(policy, numbers, facts, valuation.len(), verdicts.len());
+    let checked = check_record(policy, numbers, facts, valuation, verdicts, origin, *extent);
     let answer = checked.answer;
     match answer {
         refusal::Answer::Refused(r) => Answer::Refused(r),
@@ -424,11 +454,11 @@ fn take_packet(
     verdicts: &mut [u8],
 ) -> PacketAnswer
     requires { ⌜ (Proper policy)
-        × Sized policy (lent (now numbers) (now facts) (now valuation) (now verdicts))
+        × Sized-sheets policy (held (now numbers) (now facts)) (now valuation) (now verdicts)
         × Sound (policy .sizes) (held (now numbers) (now facts)) ⌝ }
-    ensures { λ r. ⌜ packet-outcome r (now (numbers .exit)) (now (facts .exit)) (now (valuation .exit)) (now (verdicts .exit))
+    ensures { λ r. ⌜ ((o : Origin) → packet-outcome r (now (numbers .exit)) (now (facts .exit)) (now (valuation .exit)) (now (verdicts .exit)) o
         ≡ take-packet policy
-        (lent (now (numbers .entry)) (now (facts .entry)) (now (valuation .entry)) (now (verdicts .entry))) (now (packet .entry)) ⌝ }
+        (lent (now (numbers .entry)) (now (facts .entry)) (now (valuation .entry)) (now (verdicts .entry)) o) (now (packet .entry))) ⌝ }
 {
     let sizes = policy.sizes;
     let answer = store_messages(sizes, packet, numbers, facts);
@@ -447,12 +477,14 @@ pub fn receive_packet(
     facts: &mut [u32],
     valuation: &mut [u8],
     verdicts: &mut [u8],
+    origin: &mut [u8],
+    extent: &mut u16,
 ) -> PacketAnswer
-    ensures { λ r. ⌜ packet-outcome r (now (numbers .exit)) (now (facts .exit)) (now (valuation .exit)) (now (verdicts .exit))
+    ensures { λ r. ⌜ packet-outcome r (now (numbers .exit)) (now (facts .exit)) (now (valuation .exit)) (now (verdicts .exit)) (stamped (now (origin .exit)) (now (extent .exit)))
         ≡ receive-packet (now (policy .entry))
-        (lent (now (numbers .entry)) (now (facts .entry)) (now (valuation .entry)) (now (verdicts .entry))) (now (packet .entry)) ⌝ }
+        (lent (now (numbers .entry)) (now (facts .entry)) (now (valuation .entry)) (now (verdicts .entry)) (stamped (now (origin .entry)) (now (extent .entry)))) (now (packet .entry)) ⌝ }
 {
-    let checked = check_record(policy, numbers, facts, valuation.len(), verdicts.len());
+    let checked = check_record(policy, numbers, facts, valuation, verdicts, origin, *extent);
     let answer = checked.answer;
     match answer {
         refusal::Answer::Refused(r) => PacketAnswer {

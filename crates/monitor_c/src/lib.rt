@@ -11,6 +11,7 @@ use policy::PolicyNumbers;
 use refusal::Written;
 ghost use mathlib.Core.Path.{_≡_};
 ghost use Prim.Native.Nat.{_<_};
+ghost use Rattle.origin.specs.Origin.{stamped};
 ghost use Rattle.monitor.specs.State.{lent, open-state, receive, receive-packet};
 ghost use Rattle.monitor.specs.Lookup.{verdict-code, lookup-of};
 ghost use Rattle.policy.specs.Text.{encode-of as encode-policy};
@@ -98,13 +99,15 @@ pub extern "C" fn zankezurt_open(
     facts: &mut [u32],
     valuation: &mut [u8],
     verdicts: &mut [u8],
+    origin: &mut [u8],
+    extent: &mut u16,
     detail: &mut usize,
 ) -> u8
     ensures { λ r. ⌜ _≡_ {A = Returned}
-        (record { number = r; detail = now (detail .exit); state = lent (now (numbers .exit)) (now (facts .exit)) (now (valuation .exit)) (now (verdicts .exit)) })
-        (returned (open-state (now (policy .entry)) (lent (now (numbers .entry)) (now (facts .entry)) (now (valuation .entry)) (now (verdicts .entry))))) ⌝ }
+        (record { number = r; detail = now (detail .exit); state = lent (now (numbers .exit)) (now (facts .exit)) (now (valuation .exit)) (now (verdicts .exit)) (stamped (now (origin .exit)) (now (extent .exit))) })
+        (returned (open-state (now (policy .entry)) (lent (now (numbers .entry)) (now (facts .entry)) (now (valuation .entry)) (now (verdicts .entry)) (stamped (now (origin .entry)) (now (extent .entry)))))) ⌝ }
 {
-    let answer = monitor::open(policy, numbers, facts, valuation, verdicts);
+    let answer = monitor::open(policy, numbers, facts, valuation, verdicts, origin, extent);
     *detail = answer_detail(answer);
     answer_number(answer)
 }
@@ -118,13 +121,24 @@ pub extern "C" fn zankezurt_receive(
     facts: &mut [u32],
     valuation: &mut [u8],
     verdicts: &mut [u8],
+    origin: &mut [u8],
+    extent: &mut u16,
     detail: &mut usize,
 ) -> u8
     ensures { λ r. ⌜ _≡_ {A = Returned}
-        (record { number = r; detail = now (detail .exit); state = lent (now (numbers .exit)) (now (facts .exit)) (now (valuation .exit)) (now (verdicts .exit)) })
-        (returned (receive (now (policy .entry)) (lent (now (numbers .entry)) (now (facts .entry)) (now (valuation .entry)) (now (verdicts .entry))) (now (message .entry)))) ⌝ }
+        (record { number = r; detail = now (detail .exit); state = lent (now (numbers .exit)) (now (facts .exit)) (now (valuation .exit)) (now (verdicts .exit)) (stamped (now (origin .exit)) (now (extent .exit))) })
+        (returned (receive (now (policy .entry)) (lent (now (numbers .entry)) (now (facts .entry)) (now (valuation .entry)) (now (verdicts .entry)) (stamped (now (origin .entry)) (now (extent .entry)))) (now (message .entry)))) ⌝ }
 {
-    let answer = monitor::receive(policy, message, numbers, facts, valuation, verdicts);
+    let answer = monitor::receive(
+        policy,
+        message,
+        numbers,
+        facts,
+        valuation,
+        verdicts,
+        origin,
+        extent,
+    );
     *detail = answer_detail(answer);
     answer_number(answer)
 }
@@ -138,14 +152,25 @@ pub extern "C" fn zankezurt_receive_packet(
     facts: &mut [u32],
     valuation: &mut [u8],
     verdicts: &mut [u8],
+    origin: &mut [u8],
+    extent: &mut u16,
     taken: &mut usize,
     place: &mut usize,
 ) -> u8
     ensures { λ r. ⌜ _≡_ {A = Returned-packet}
-        (record { number = r; taken = now (taken .exit); place = now (place .exit); state = lent (now (numbers .exit)) (now (facts .exit)) (now (valuation .exit)) (now (verdicts .exit)) })
-        (returned-packet (receive-packet (now (policy .entry)) (lent (now (numbers .entry)) (now (facts .entry)) (now (valuation .entry)) (now (verdicts .entry))) (now (packet .entry)))) ⌝ }
+        (record { number = r; taken = now (taken .exit); place = now (place .exit); state = lent (now (numbers .exit)) (now (facts .exit)) (now (valuation .exit)) (now (verdicts .exit)) (stamped (now (origin .exit)) (now (extent .exit))) })
+        (returned-packet (receive-packet (now (policy .entry)) (lent (now (numbers .entry)) (now (facts .entry)) (now (valuation .entry)) (now (verdicts .entry)) (stamped (now (origin .entry)) (now (extent .entry)))) (now (packet .entry)))) ⌝ }
 {
-    let answer = monitor::receive_packet(policy, packet, numbers, facts, valuation, verdicts);
+    let answer = monitor::receive_packet(
+        policy,
+        packet,
+        numbers,
+        facts,
+        valuation,
+        verdicts,
+        origin,
+        extent,
+    );
     let stop = answer.stop;
     *taken = answer.taken;
     *place = stop_place(stop);
@@ -283,10 +308,10 @@ pub extern "C" fn zankezurt_encode_message(
     written_number(written)
 }
 
-// The version of the library, 0.1.0: 10,000 times the major number, 100 times the minor, and the patch.
+// The version of the library, 0.2.0: 10,000 times the major number, 100 times the minor, and the patch.
 #[no_mangle]
 pub extern "C" fn zankezurt_version() -> u32
-    ensures { λ r. ⌜ r ≡ 100 ⌝ }
+    ensures { λ r. ⌜ r ≡ 200 ⌝ }
 {
-    100
+    200
 }

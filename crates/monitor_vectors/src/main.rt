@@ -13,6 +13,9 @@ ghost use lib.ListN.{length};
 // K: proposition 0 at some time in the last 2 minutes.
 const K: [u8; 13] = *b"\x01\x01\x04\x00\x03\x00\x01\x01\x35\x04\x01\x02\x00";
 
+// U: K with its last line proposition 0 within the next minute. It needs what K needs.
+const U: [u8; 13] = *b"\x01\x01\x04\x00\x03\x00\x01\x01\x35\x05\x01\x01\x00";
+
 // A, packet A B and an empty packet.
 const EACH: [u8; 29] =
     *b"\x08\x0c\x01\x00\x01\x00\x00\x00\x00\x92\x0c\x01\x00\x01\x00\x00\x00\x00\x0e\x02\x00\x02\x00\x01\x00\x00\x00\x01\x80";
@@ -20,12 +23,19 @@ const EACH: [u8; 29] =
 // What a packet's length byte has more than a message's.
 const PACKET: u8 = 128;
 
+// How many bytes the origin has.
+const ROOM: usize = 517;
+
+// Room for the text of a state, whatever it holds.
+const TEXT: usize = 3072;
+
 // How many elements of each array are lent.
 struct Parts {
     numbers: usize,
     facts: usize,
     valuation: usize,
     verdicts: usize,
+    origin: usize,
 }
 
 fn print(bytes: &[u8]) {
@@ -81,9 +91,25 @@ fn print_packet_answer(answer: PacketAnswer) {
 }
 
 // The state, or that it is what the text before says.
-fn print_state(before: &[u8], numbers: &[u16], facts: &[u32], valuation: &[u8], verdicts: &[u8]) {
-    let mut after = [0u8; 512];
-    let n = text::describe(&mut after, numbers, facts, valuation, verdicts);
+fn print_state(
+    before: &[u8],
+    numbers: &[u16],
+    facts: &[u32],
+    valuation: &[u8],
+    verdicts: &[u8],
+    origin: &[u8],
+    extent: u16,
+) {
+    let mut after = [0u8; TEXT];
+    let n = text::describe(
+        &mut after,
+        numbers,
+        facts,
+        valuation,
+        verdicts,
+        origin,
+        extent,
+    );
     if check::same(before, &after[0..n]) {
         print(b"  unchanged\n");
         return;
@@ -98,12 +124,30 @@ fn show_open(
     facts: &mut [u32],
     valuation: &mut [u8],
     verdicts: &mut [u8],
+    origin: &mut [u8],
+    extent: &mut u16,
 ) {
-    let mut before = [0u8; 512];
-    let n = text::describe(&mut before, numbers, facts, valuation, verdicts);
+    let mut before = [0u8; TEXT];
+    let n = text::describe(
+        &mut before,
+        numbers,
+        facts,
+        valuation,
+        verdicts,
+        origin,
+        *extent,
+    );
     print(b"open: ");
-    print_answer(monitor::open(policy, numbers, facts, valuation, verdicts));
-    print_state(&before[0..n], numbers, facts, valuation, verdicts);
+    print_answer(monitor::open(policy, numbers, facts, valuation, verdicts, origin, extent));
+    print_state(
+        &before[0..n],
+        numbers,
+        facts,
+        valuation,
+        verdicts,
+        origin,
+        *extent,
+    );
 }
 
 // Receives a message, and prints it, the answer and the state.
@@ -114,13 +158,40 @@ fn show_receive(
     facts: &mut [u32],
     valuation: &mut [u8],
     verdicts: &mut [u8],
+    origin: &mut [u8],
+    extent: &mut u16,
 ) {
-    let mut before = [0u8; 512];
-    let n = text::describe(&mut before, numbers, facts, valuation, verdicts);
+    let mut before = [0u8; TEXT];
+    let n = text::describe(
+        &mut before,
+        numbers,
+        facts,
+        valuation,
+        verdicts,
+        origin,
+        *extent,
+    );
     print_message(message);
     print(b": ");
-    print_answer(monitor::receive(policy, message, numbers, facts, valuation, verdicts));
-    print_state(&before[0..n], numbers, facts, valuation, verdicts);
+    print_answer(monitor::receive(
+        policy,
+        message,
+        numbers,
+        facts,
+        valuation,
+        verdicts,
+        origin,
+        extent,
+    ));
+    print_state(
+        &before[0..n],
+        numbers,
+        facts,
+        valuation,
+        verdicts,
+        origin,
+        *extent,
+    );
 }
 
 // Receives a packet, and prints it, the answer and the state.
@@ -131,9 +202,19 @@ fn show_packet(
     facts: &mut [u32],
     valuation: &mut [u8],
     verdicts: &mut [u8],
+    origin: &mut [u8],
+    extent: &mut u16,
 ) {
-    let mut before = [0u8; 512];
-    let n = text::describe(&mut before, numbers, facts, valuation, verdicts);
+    let mut before = [0u8; TEXT];
+    let n = text::describe(
+        &mut before,
+        numbers,
+        facts,
+        valuation,
+        verdicts,
+        origin,
+        *extent,
+    );
     print_message(packet);
     print(b": ");
     print_packet_answer(monitor::receive_packet(
@@ -143,8 +224,18 @@ fn show_packet(
         facts,
         valuation,
         verdicts,
+        origin,
+        extent,
     ));
-    print_state(&before[0..n], numbers, facts, valuation, verdicts);
+    print_state(
+        &before[0..n],
+        numbers,
+        facts,
+        valuation,
+        verdicts,
+        origin,
+        *extent,
+    );
 }
 
 // Receives what stands after a length byte: a packet where its bit 7 stands, and else a message.
@@ -156,12 +247,32 @@ fn show_offer(
     facts: &mut [u32],
     valuation: &mut [u8],
     verdicts: &mut [u8],
+    origin: &mut [u8],
+    extent: &mut u16,
 ) {
     if length < PACKET {
-        show_receive(policy, offer, numbers, facts, valuation, verdicts);
+        show_receive(
+            policy,
+            offer,
+            numbers,
+            facts,
+            valuation,
+            verdicts,
+            origin,
+            extent,
+        );
         return;
     }
-    show_packet(policy, offer, numbers, facts, valuation, verdicts);
+    show_packet(
+        policy,
+        offer,
+        numbers,
+        facts,
+        valuation,
+        verdicts,
+        origin,
+        extent,
+    );
 }
 
 // Where the message or packet ends whose length byte stands at a place.
@@ -189,6 +300,8 @@ fn show_messages(
     facts: &mut [u32],
     valuation: &mut [u8],
     verdicts: &mut [u8],
+    origin: &mut [u8],
+    extent: &mut u16,
 ) {
     let mut at = 0;
     while at < messages.len() {
@@ -202,6 +315,8 @@ fn show_messages(
             facts,
             valuation,
             verdicts,
+            origin,
+            extent,
         );
         at = to;
     }
@@ -215,23 +330,37 @@ fn play(
     facts: &mut [u32],
     valuation: &mut [u8],
     verdicts: &mut [u8],
+    origin: &mut [u8],
+    extent: &mut u16,
 ) {
-    show_open(policy, numbers, facts, valuation, verdicts);
-    show_messages(policy, messages, numbers, facts, valuation, verdicts);
+    show_open(policy, numbers, facts, valuation, verdicts, origin, extent);
+    show_messages(
+        policy,
+        messages,
+        numbers,
+        facts,
+        valuation,
+        verdicts,
+        origin,
+        extent,
+    );
 }
 
 // A case over parts of arrays that hold 9 everywhere: what they held before an opening doesn't matter.
 fn run(title: &[u8], parts: Parts, policy: &[u8], messages: &[u8])
-    requires { ⌜ (parts .numbers ≤ 8) × (parts .facts ≤ 16) × (parts .valuation ≤ 16) × (parts .verdicts ≤ 8) ⌝ }
+    requires { ⌜ (parts .numbers ≤ 8) × (parts .facts ≤ 16) × (parts .valuation ≤ 16) × (parts .verdicts ≤ 8) × (parts .origin ≤ 517) ⌝ }
 {
     let mut numbers = [9u16; 8];
     let mut facts = [9u32; 16];
     let mut valuation = [9u8; 16];
     let mut verdicts = [9u8; 8];
+    let mut origin = [9u8; ROOM];
+    let mut extent = 9u16;
     let n = parts.numbers;
     let f = parts.facts;
     let v = parts.valuation;
     let d = parts.verdicts;
+    let o = parts.origin;
     print(title);
     play(
         policy,
@@ -240,19 +369,22 @@ fn run(title: &[u8], parts: Parts, policy: &[u8], messages: &[u8])
         &mut facts[0..f],
         &mut valuation[0..v],
         &mut verdicts[0..d],
+        &mut origin[0..o],
+        &mut extent,
     );
 }
 
 // The parts that a policy of one component, four minutes and one rule needs, by its lines.
 fn parts_of(lines: usize) -> Parts
     requires { ⌜ lines ≤ 4 ⌝ }
-    ensures { λ r. ⌜ (r .numbers ≤ 8) × (r .facts ≤ 16) × (r .valuation ≤ 16) × (r .verdicts ≤ 8) ⌝ }
+    ensures { λ r. ⌜ (r .numbers ≤ 8) × (r .facts ≤ 16) × (r .valuation ≤ 16) × (r .verdicts ≤ 8) × (r .origin ≤ 517) ⌝ }
 {
     Parts {
         numbers: 5,
         facts: 8,
         valuation: lines * 4,
         verdicts: 4,
+        origin: ROOM,
     }
 }
 
@@ -263,7 +395,7 @@ fn small(title: &[u8], messages: &[u8]) {
 
 // A case of K over other parts, with A, packet A B and an empty packet.
 fn sized(title: &[u8], parts: Parts)
-    requires { ⌜ (parts .numbers ≤ 8) × (parts .facts ≤ 16) × (parts .valuation ≤ 16) × (parts .verdicts ≤ 8) ⌝ }
+    requires { ⌜ (parts .numbers ≤ 8) × (parts .facts ≤ 16) × (parts .valuation ≤ 16) × (parts .verdicts ≤ 8) × (parts .origin ≤ 517) ⌝ }
 {
     run(title, parts, &K, &EACH);
 }
@@ -483,19 +615,18 @@ fn full_runs() {
     );
 }
 
-// K with its last line proposition 0 within the next minute.
+// Cases of U.
 fn next_minute() {
-    let policy = b"\x01\x01\x04\x00\x03\x00\x01\x01\x35\x05\x01\x01\x00";
     run(
         b"next minute: false at minute 3\n",
         parts_of(3),
-        policy,
+        &U,
         b"\x0a\x0e\x03\x00\x01\x00\x01\x00\x00\x00\x00",
     );
     run(
         b"next minute: false at minute 2, alive at minute 4\n",
         parts_of(3),
-        policy,
+        &U,
         b"\x0a\x0e\x02\x00\x01\x00\x01\x00\x00\x00\x00\x05\x16\x04\x00\x01\x00",
     );
 }
@@ -509,6 +640,7 @@ fn wrong_sizes() {
             facts: 8,
             valuation: 12,
             verdicts: 4,
+            origin: ROOM,
         },
     );
     sized(
@@ -518,6 +650,7 @@ fn wrong_sizes() {
             facts: 7,
             valuation: 12,
             verdicts: 4,
+            origin: ROOM,
         },
     );
     sized(
@@ -527,6 +660,7 @@ fn wrong_sizes() {
             facts: 8,
             valuation: 0,
             verdicts: 4,
+            origin: ROOM,
         },
     );
     sized(
@@ -536,6 +670,17 @@ fn wrong_sizes() {
             facts: 8,
             valuation: 12,
             verdicts: 5,
+            origin: ROOM,
+        },
+    );
+    sized(
+        b"an origin of 516 bytes\n",
+        Parts {
+            numbers: 5,
+            facts: 8,
+            valuation: 12,
+            verdicts: 4,
+            origin: 516,
         },
     );
 }
@@ -549,8 +694,18 @@ fn run_overwritten(title: &[u8], slot: usize, number: u16, cell: usize, fact: u3
     let mut facts = [9u32; 8];
     let mut valuation = [9u8; 12];
     let mut verdicts = [9u8; 4];
+    let mut origin = [9u8; ROOM];
+    let mut extent = 9u16;
     print(title);
-    show_open(&K, &mut numbers, &mut facts, &mut valuation, &mut verdicts);
+    show_open(
+        &K,
+        &mut numbers,
+        &mut facts,
+        &mut valuation,
+        &mut verdicts,
+        &mut origin,
+        &mut extent,
+    );
     numbers[slot] = number;
     facts[cell] = fact;
     valuation = [7u8; 12];
@@ -562,6 +717,8 @@ fn run_overwritten(title: &[u8], slot: usize, number: u16, cell: usize, fact: u3
         &mut facts,
         &mut valuation,
         &mut verdicts,
+        &mut origin,
+        &mut extent,
     );
 }
 
@@ -605,6 +762,130 @@ fn packets_over_other_sheets() {
         b"other sheets: packet of an alive message that changes nothing, and no count\n",
         b"\x82\x10\x00",
     );
+}
+
+// Opens under one policy and receives the messages, and then offers the same with another: 12.
+fn lend_with(
+    title: &[u8],
+    policy: &[u8],
+    other: &[u8],
+    numbers: &mut [u16],
+    facts: &mut [u32],
+    valuation: &mut [u8],
+    verdicts: &mut [u8],
+    origin: &mut [u8],
+    extent: &mut u16,
+) {
+    print(title);
+    play(
+        policy,
+        &EACH,
+        numbers,
+        facts,
+        valuation,
+        verdicts,
+        origin,
+        extent,
+    );
+    show_messages(
+        other,
+        &EACH,
+        numbers,
+        facts,
+        valuation,
+        verdicts,
+        origin,
+        extent,
+    );
+}
+
+// One state, opened under K and lent with U, and then the other way round.
+fn other_policy() {
+    let mut numbers = [9u16; 5];
+    let mut facts = [9u32; 8];
+    let mut valuation = [9u8; 12];
+    let mut verdicts = [9u8; 4];
+    let mut origin = [9u8; ROOM];
+    let mut extent = 9u16;
+    lend_with(
+        b"opened under K, and then lent with U\n",
+        &K,
+        &U,
+        &mut numbers,
+        &mut facts,
+        &mut valuation,
+        &mut verdicts,
+        &mut origin,
+        &mut extent,
+    );
+    lend_with(
+        b"opened under U, and then lent with K\n",
+        &U,
+        &K,
+        &mut numbers,
+        &mut facts,
+        &mut valuation,
+        &mut verdicts,
+        &mut origin,
+        &mut extent,
+    );
+}
+
+// K opened, and then the first sequence number, one byte of the origin and the extent overwritten.
+fn damaged(title: &[u8], number: u16, place: usize, byte: u8, size: u16)
+    requires { ⌜ place < 517 ⌝ }
+{
+    let mut numbers = [9u16; 5];
+    let mut facts = [9u32; 8];
+    let mut valuation = [9u8; 12];
+    let mut verdicts = [9u8; 4];
+    let mut origin = [9u8; ROOM];
+    let mut extent = 9u16;
+    print(title);
+    show_open(
+        &K,
+        &mut numbers,
+        &mut facts,
+        &mut valuation,
+        &mut verdicts,
+        &mut origin,
+        &mut extent,
+    );
+    numbers[0] = number;
+    origin[place] = byte;
+    extent = size;
+    show_messages(
+        &K,
+        &EACH,
+        &mut numbers,
+        &mut facts,
+        &mut valuation,
+        &mut verdicts,
+        &mut origin,
+        &mut extent,
+    );
+}
+
+// Bytes that opening K doesn't write: 12, and that before 6.
+fn damaged_origins() {
+    damaged(b"another byte in the policy\n", 0, 9, 5, 13);
+    damaged(b"another last byte of the policy\n", 0, 12, 1, 13);
+    damaged(b"a byte after the policy\n", 0, 13, 1, 13);
+    damaged(b"another last byte of the origin\n", 0, 516, 1, 13);
+    damaged(
+        b"another byte in the policy, and the first number is not 0\n",
+        1,
+        9,
+        5,
+        13,
+    );
+}
+
+// Lengths that it doesn't write: 12.
+fn damaged_extents() {
+    damaged(b"an extent one less\n", 0, 12, 0, 12);
+    damaged(b"an extent above 517\n", 0, 12, 0, 518);
+    damaged(b"the largest extent\n", 0, 12, 0, 65535);
 }
 
 // Policies that are cut, or followed by more: 1.
@@ -675,6 +956,9 @@ fn main() {
     wrong_sizes();
     overwritten_states();
     packets_over_other_sheets();
+    other_policy();
+    damaged_origins();
+    damaged_extents();
     cut_policies();
     bad_headings();
     bad_lines();

@@ -78,6 +78,32 @@ fn put_codes(text: &mut [u8], at: usize, label: &[u8], codes: &[u8]) -> usize
     put(text, end, b"\n")
 }
 
+// How many bytes there are up to the last that is not 0.
+fn used(origin: &[u8]) -> usize
+    ensures { λ r. ⌜ r ≤ length (now (origin .entry)) ⌝ }
+{
+    let mut end = 0;
+    let mut i = 0;
+    while i < origin.len() {
+        if origin[i] != 0 {
+            end = i + 1;
+        }
+        i += 1;
+    }
+    end
+}
+
+// The line of the policy that the state was opened under: its length, and the buffer's bytes up to the last that is not 0.
+fn put_origin(text: &mut [u8], at: usize, origin: &[u8], extent: u16) -> usize
+    requires { ⌜ at ≤ length (now text) ⌝ }
+    ensures { λ r. ⌜ r ≤ length (now (text .entry)) ⌝ }
+{
+    let label_end = put(text, at, b"  origin");
+    let extent_end = put_number(text, label_end, wide16(extent));
+    let n = used(origin);
+    put_codes(text, extent_end, b":", &origin[0..n])
+}
+
 // The whole state, a line for each buffer; answers where the text ends.
 pub fn describe(
     text: &mut [u8],
@@ -85,11 +111,14 @@ pub fn describe(
     facts: &[u32],
     valuation: &[u8],
     verdicts: &[u8],
+    origin: &[u8],
+    extent: u16,
 ) -> usize
     ensures { λ r. ⌜ r ≤ length (now (text .entry)) ⌝ }
 {
     let numbers_end = put_numbers(text, 0, numbers);
     let facts_end = put_facts(text, numbers_end, facts);
     let valuation_end = put_codes(text, facts_end, b"  valuation", valuation);
-    put_codes(text, valuation_end, b"  verdicts", verdicts)
+    let verdicts_end = put_codes(text, valuation_end, b"  verdicts", verdicts);
+    put_origin(text, verdicts_end, origin, extent)
 }

@@ -1,7 +1,7 @@
 -- 01, "Reasons to turn a call away": the table's numbers and places, each computed.
 use Prim.Native.Nat.{ℕ, _+_}
 use mathlib.Core.Path.{_≡_, refl}
-use Rattle.refusal.specs.declared.Refusal.the-variants.{TruncatedPolicy, BadHeading, BadSubformula, RuleCount, BufferSize, CorruptKnowledge, TruncatedMessage, BadMessage, Conflict, OutOfRange, ShortBuffer}
+use Rattle.refusal.specs.declared.Refusal.the-variants.{TruncatedPolicy, BadHeading, BadSubformula, RuleCount, BufferSize, CorruptKnowledge, TruncatedMessage, BadMessage, Conflict, OutOfRange, ShortBuffer, OtherPolicy}
 use Rattle.refusal.specs.Numbers.{refusal-number, refusal-place, packet-place}
 
 pub record Table : Type 0 where
@@ -27,6 +27,8 @@ pub record Table : Type 0 where
   pub off-the-sheet : (refusal-number OutOfRange ≡ 10) × (refusal-place OutOfRange ≡ 0)
   -- 11, short paper (02, request 3); "numbers added later have place 0 where none is named"
   pub short-paper : (refusal-number ShortBuffer ≡ 11) × (refusal-place ShortBuffer ≡ 0)
+  -- 12, other card (02, request 5)
+  pub other-card : (refusal-number OtherPolicy ≡ 12) × (refusal-place OtherPolicy ≡ 0)
 
 pub table : Table
 table = record {
@@ -41,17 +43,19 @@ table = record {
   clash = (refl, refl);
   off-the-sheet = (refl, refl);
   short-paper = (refl, refl);
+  other-card = (refl, refl);
 }
 
 -- 02, request 1: where a refusal stands in a packet whose message starts at byte `start`
 pub record Packet-table : Type 0 where
-  -- 1 to 6 are checked before 7: they "keep their places"
+  -- 1 to 6 and 12 are checked before 7: they "keep their places"
   pub cut-card : (start at : ℕ) → packet-place start (TruncatedPolicy at) ≡ refusal-place (TruncatedPolicy at)
   pub bad-heading : (start at : ℕ) → packet-place start (BadHeading at) ≡ refusal-place (BadHeading at)
   pub bad-line : (start at : ℕ) → packet-place start (BadSubformula at) ≡ refusal-place (BadSubformula at)
   pub rule-count : (start : ℕ) → packet-place start RuleCount ≡ refusal-place RuleCount
   pub wrong-tray : (start : ℕ) → packet-place start BufferSize ≡ refusal-place BufferSize
   pub spoiled-record : (start : ℕ) → packet-place start CorruptKnowledge ≡ refusal-place CorruptKnowledge
+  pub other-card : (start : ℕ) → packet-place start OtherPolicy ≡ refusal-place OtherPolicy
   -- 7: its own place, "counted from the packet's start"
   pub cut-slip : (start at : ℕ) → packet-place start (TruncatedMessage at) ≡ start + refusal-place (TruncatedMessage at)
   -- 8 and 9 are checked after 7: "the slip's first byte"
@@ -66,6 +70,7 @@ packet-table = record {
   rule-count = λ start. refl;
   wrong-tray = λ start. refl;
   spoiled-record = λ start. refl;
+  other-card = λ start. refl;
   cut-slip = λ start at. refl;
   bad-slip = λ start. refl;
   clash = λ start. refl;

@@ -27,6 +27,8 @@ pub enum Refusal {
     OutOfRange,
     // 11, short paper (02, request 3): the lent buffer is shorter than the text
     ShortBuffer,
+    // 12, other card (02, request 5): the lent state was not opened under this policy
+    OtherPolicy,
 }
 
 // What a check answers, or a call's checks one after another: they let it pass, or the first that fails refuses it.
@@ -57,6 +59,7 @@ pub fn number(r: Refusal) -> u8
         Refusal::Conflict => 9,
         Refusal::OutOfRange => 10,
         Refusal::ShortBuffer => 11,
+        Refusal::OtherPolicy => 12,
     }
 }
 
@@ -76,6 +79,7 @@ pub fn place(r: Refusal) -> usize
         Refusal::Conflict => 0,
         Refusal::OutOfRange => 0,
         Refusal::ShortBuffer => 0,
+        Refusal::OtherPolicy => 0,
     }
 }
 
@@ -97,5 +101,6 @@ pub fn place_in_packet(r: Refusal, start: usize) -> usize
         Refusal::Conflict => start,
         Refusal::OutOfRange => place(r),
         Refusal::ShortBuffer => place(r),
+        Refusal::OtherPolicy => place(r),
     }
 }

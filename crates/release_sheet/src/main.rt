@@ -61,8 +61,10 @@ fn open_parts(
     facts: &mut [u32],
     valuation: &mut [u8],
     verdicts: &mut [u8],
+    origin: &mut [u8],
+    extent: &mut u16,
 ) -> Answer
-    requires { ⌜ Fits parts × Largest (now numbers) (now facts) (now valuation) (now verdicts) ⌝ }
+    requires { ⌜ Fits parts × Largest (now numbers) (now facts) (now valuation) (now verdicts) (now origin) ⌝ }
 {
     let n = parts.numbers;
     let f = parts.facts;
@@ -74,6 +76,8 @@ fn open_parts(
         &mut facts[0..f],
         &mut valuation[0..v],
         &mut verdicts[0..d],
+        origin,
+        extent,
     )
 }
 
@@ -86,8 +90,10 @@ fn offer(
     facts: &mut [u32],
     valuation: &mut [u8],
     verdicts: &mut [u8],
+    origin: &mut [u8],
+    extent: &mut u16,
 ) -> Answer
-    requires { ⌜ Fits parts × Largest (now numbers) (now facts) (now valuation) (now verdicts) ⌝ }
+    requires { ⌜ Fits parts × Largest (now numbers) (now facts) (now valuation) (now verdicts) (now origin) ⌝ }
 {
     let n = parts.numbers;
     let f = parts.facts;
@@ -100,6 +106,8 @@ fn offer(
         &mut facts[0..f],
         &mut valuation[0..v],
         &mut verdicts[0..d],
+        origin,
+        extent,
     )
 }
 
@@ -137,9 +145,11 @@ fn receive_all(
     facts: &mut [u32],
     valuation: &mut [u8],
     verdicts: &mut [u8],
+    origin: &mut [u8],
+    extent: &mut u16,
 ) -> Tally
     requires { ⌜ Fits parts
-        × Largest (now numbers) (now facts) (now valuation) (now verdicts)
+        × Largest (now numbers) (now facts) (now valuation) (now verdicts) (now origin)
         × (window .at ≤ window .end)
         × (window .end ≤ length (now buffer)) ⌝ }
 {
@@ -168,6 +178,8 @@ fn receive_all(
             facts,
             valuation,
             verdicts,
+            origin,
+            extent,
         );
         tally = counted(tally, answer, start);
         w.at = to;
@@ -237,10 +249,12 @@ fn watch(
     facts: &mut [u32],
     valuation: &mut [u8],
     verdicts: &mut [u8],
+    origin: &mut [u8],
+    extent: &mut u16,
     text: &mut [u8],
 )
     requires { ⌜ Fits parts
-        × Largest (now numbers) (now facts) (now valuation) (now verdicts)
+        × Largest (now numbers) (now facts) (now valuation) (now verdicts) (now origin)
         × (window .at ≤ window .end)
         × (window .end ≤ length (now buffer))
         × (64 ≤ length (now text)) ⌝ }
@@ -254,6 +268,8 @@ fn watch(
         facts,
         valuation,
         verdicts,
+        origin,
+        extent,
     );
     print_sheet(verdicts, parts, tally, text);
 }
@@ -276,15 +292,26 @@ fn run(
     facts: &mut [u32],
     valuation: &mut [u8],
     verdicts: &mut [u8],
+    origin: &mut [u8],
+    extent: &mut u16,
     text: &mut [u8],
 )
-    requires { ⌜ Largest (now numbers) (now facts) (now valuation) (now verdicts)
+    requires { ⌜ Largest (now numbers) (now facts) (now valuation) (now verdicts) (now origin)
         × (window .at ≤ window .end)
         × (window .end ≤ length (now buffer))
         × (64 ≤ length (now text)) ⌝ }
 {
     let parts = parts_of(policy);
-    let answer = open_parts(policy, parts, numbers, facts, valuation, verdicts);
+    let answer = open_parts(
+        policy,
+        parts,
+        numbers,
+        facts,
+        valuation,
+        verdicts,
+        origin,
+        extent,
+    );
     match answer {
         Answer::Refused(r) => {
             refuse_policy(start, r, text);
@@ -299,6 +326,8 @@ fn run(
                 facts,
                 valuation,
                 verdicts,
+                origin,
+                extent,
                 text,
             );
         }
@@ -324,6 +353,8 @@ fn main() {
     let mut facts = [0u32; 2048];
     let mut valuation = [0u8; 65536];
     let mut verdicts = [0u8; 8192];
+    let mut origin = [0u8; 517];
+    let mut extent = 0u16;
     let window = input::start(&mut buffer);
     let end = window.end;
     let length = policy_length(&buffer, end);
@@ -349,6 +380,8 @@ fn main() {
         &mut facts,
         &mut valuation,
         &mut verdicts,
+        &mut origin,
+        &mut extent,
         &mut text,
     );
 }

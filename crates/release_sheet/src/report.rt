@@ -51,8 +51,8 @@ fn put_message_reason(text: &mut [u8], at: usize, number: u8) -> usize
     }
 }
 
-// Why a call is refused. A call of this program is never refused by 5, 6 or 10: it lends buffers of the exact sizes and its own record,
-// and makes no look.
+// Why a call is refused. A call of this program is never refused by 5, 6, 10 or 12: it lends buffers of the exact sizes and its own record,
+// under the policy that it was opened under, and makes no look.
 fn put_reason(text: &mut [u8], at: usize, number: u8) -> usize
     requires { ⌜ at + 96 ≤ length (now text) ⌝ }
     ensures { λ r. ⌜ r ≤ at + 96 ⌝ }

@@ -23,17 +23,17 @@ fit-requires c κs = read-policy _ _ (c .before .before .before .decode .ensures
 returns : tie.Need-returns
 returns c =
     let a = c .before .before .before .before .before .before .before .args in
-    sizes-misfit (a .policy .now) (a .numbers) (a .facts) (a .valuation) (a .verdicts) _ (c .before .before .before .before .before .decode .ensures) (c .before .before .before .enum-told2 .given .1) (sym (c .before .fit .ensures) ∙ not-true _ (c .if1 .taken))
+    sizes-misfit (a .policy .now) (a .lengths) _ (c .before .before .before .before .before .decode .ensures) (c .before .before .before .enum-told2 .given .1) (sym (c .before .fit .ensures) ∙ not-true _ (c .if1 .taken))
 
 returns-2 : tie.Need-returns-2
 returns-2 c =
     let a = c .before .before .before .before .args in
-    sizes-refused (a .policy .now) (a .numbers) (a .facts) (a .valuation) (a .verdicts) _ (c .before .before .decode .ensures) _ (c .enum-told .given .1)
+    sizes-refused (a .policy .now) (a .lengths) _ (c .before .before .decode .ensures) _ (c .enum-told .given .1)
 
 returns-3 : tie.Need-returns-3
 returns-3 c =
     let a = c .before .before .before .before .before .before .before .args in
-    sizes-fine (a .policy .now) (a .numbers) (a .facts) (a .valuation) (a .verdicts) _ (c .before .before .before .before .before .decode .ensures) (c .before .before .before .enum-told2 .given .1) (sym (c .before .fit .ensures) ∙ not-false _ (c .if1 .left))
+    sizes-fine (a .policy .now) (a .lengths) _ (c .before .before .before .before .before .decode .ensures) (c .before .before .before .enum-told2 .given .1) (sym (c .before .fit .ensures) ∙ not-false _ (c .if1 .left))
 
 pub check-sizes-spec : {M : Type 1} → statement M
 check-sizes-spec =

@@ -3,7 +3,7 @@
 use mathlib.Core.Path.{_≡_, refl}
 use native.Mathlib.Omega.{arith}
 use Rattle.rows.specs.Laws.{untouched, one-more}
-use Rattle.monitor.proofs.Filling.{cleared}
+use Rattle.rows.specs.Filled.{cleared}
 use Prim.Native.Nat.{_-_, _≤_, zero-le}
 use borrow.Author.Needs.{needs}
 use lib.ListN.{length}

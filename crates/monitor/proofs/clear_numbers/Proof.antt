@@ -3,7 +3,7 @@
 use mathlib.Core.Path.{_≡_}
 use native.Mathlib.Omega.{arith}
 use Rattle.rows.specs.Laws.{untouched, one-more}
-use Rattle.monitor.proofs.Filling.{filled}
+use Rattle.rows.specs.Filled.{filled}
 use Prim.Native.Nat.{_+_, _-_, _%_, _≤_, zero-le}
 use borrow.Author.Needs.{needs}
 use lib.ListN.{length}

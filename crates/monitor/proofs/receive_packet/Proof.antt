@@ -1,5 +1,6 @@
 -- Where the checks of the record refuse, nothing is written; where they pass, the packet's messages are taken.
 -- Assumes nothing.
+use Rattle.origin.specs.Origin.{stamped}
 use Rattle.monitor.specs.State.{lent}
 use Rattle.monitor.proofs.Calls.{record-read, record-sized, record-sound}
 use Rattle.monitor.proofs.Packets.{packet-refused, packet-taken}
@@ -21,21 +22,17 @@ enum-told c = search needs
 
 take-packet-requires : tie.Need-take-packet-requires
 take-packet-requires c κs =
-    let a = c .before .before .before .before .before .before .before .before .before .before .before .before .before .before .before .before .args in
+    let a = c .before .before .before .before .before .before .before .before .before .before .before .before .before .before .before .before .before .before .before .before .before .args in
+    let x = lent (a .numbers .now) (a .facts .now) (a .valuation .now) (a .verdicts .now) (stamped (a .origin .now) (a .extent .now)) in
     let e = c .before .before .before .before .before .before .before .check-record .ensures in
     let t = c .before .before .before .before .before .enum-told .given .1 in
-    (record-read (a .policy .now) (lent (a .numbers .now) (a .facts .now) (a .valuation .now) (a .verdicts .now)) _ e t .proper, record-sized (a .policy .now) (lent (a .numbers .now) (a .facts .now) (a .valuation .now) (a .verdicts .now)) _ e t, record-sound (a .policy .now) (lent (a .numbers .now) (a .facts .now) (a .valuation .now) (a .verdicts .now)) _ e t)
+    (record-read (a .policy .now) x _ e t .proper, record-sized (a .policy .now) x _ e t .sheets, record-sound (a .policy .now) x _ e t)
 
 same-length : tie.Need-same-length
 same-length c = search needs
 
 same-length-2 : tie.Need-same-length-2
 same-length-2 c = search needs
-
-returns : tie.Need-returns
-returns c =
-    let a = c .before .before .before .before .before .before .before .before .before .before .before .before .before .args in
-    packet-refused (a .policy .now) (lent (a .numbers .now) (a .facts .now) (a .valuation .now) (a .verdicts .now)) (a .packet .now) _ (c .before .before .before .before .check-record .ensures) _ (c .before .before .answer .given .1) _ (c .place .ensures)
 
 same-length-3 : tie.Need-same-length-3
 same-length-3 c = search needs
@@ -46,13 +43,30 @@ same-length-4 c = search needs
 same-length-5 : tie.Need-same-length-5
 same-length-5 c = search needs
 
+returns : tie.Need-returns
+returns c =
+    let a = c .before .before .before .before .before .before .before .before .before .before .before .before .before .before .before .before .before .before .args in
+    packet-refused (a .policy .now) (lent (a .numbers .now) (a .facts .now) (a .valuation .now) (a .verdicts .now) (stamped (a .origin .now) (a .extent .now))) (a .packet .now) _ (c .before .before .before .before .check-record .ensures) _ (c .before .before .answer .given .1) _ (c .place .ensures)
+
 same-length-6 : tie.Need-same-length-6
 same-length-6 c = search needs
 
+same-length-7 : tie.Need-same-length-7
+same-length-7 c = search needs
+
+same-length-8 : tie.Need-same-length-8
+same-length-8 c = search needs
+
+same-length-9 : tie.Need-same-length-9
+same-length-9 c = search needs
+
+same-length-10 : tie.Need-same-length-10
+same-length-10 c = search needs
+
 returns-2 : tie.Need-returns-2
 returns-2 c =
-    let a = c .before .before .before .before .before .before .before .before .before .before .before .before .before .before .before .before .before .before .before .before .before .before .before .before .before .args in
-    packet-taken (a .policy .now) (lent (a .numbers .now) (a .facts .now) (a .valuation .now) (a .verdicts .now)) (a .packet .now) _ (c .before .before .before .before .before .before .before .before .before .before .before .before .before .before .before .before .check-record .ensures) _ (c .before .before .before .before .before .before .before .before .before .before .before .before .before .before .enum-told .given .1) (c .before .before .before .before .before .before .before .before .take-packet .ensures)
+    let a = c .before .before .before .before .before .before .before .before .before .before .before .before .before .before .before .before .before .before .before .before .before .before .before .before .before .before .before .before .before .before .args in
+    packet-taken (a .policy .now) (lent (a .numbers .now) (a .facts .now) (a .valuation .now) (a .verdicts .now) (stamped (a .origin .now) (a .extent .now))) (a .packet .now) _ (c .before .before .before .before .before .before .before .before .before .before .before .before .before .before .before .before .check-record .ensures) _ (c .before .before .before .before .before .before .before .before .before .before .before .before .before .before .enum-told .given .1) (c .before .before .before .before .before .before .before .before .take-packet .ensures (stamped (a .origin .now) (a .extent .now)))
 
 pub receive-packet-spec : {M : Type 1} → statement M
 receive-packet-spec =
@@ -65,9 +79,13 @@ receive-packet-spec =
     take-packet-requires
     same-length
     same-length-2
-    returns
     same-length-3
     same-length-4
     same-length-5
+    returns
     same-length-6
+    same-length-7
+    same-length-8
+    same-length-9
+    same-length-10
     returns-2)

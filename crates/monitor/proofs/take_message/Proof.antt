@@ -10,18 +10,18 @@ first-step-requires : tie.Need-first-step-requires
 first-step-requires c κs = search needs
 
 sub-t12 : tie.Need-sub-t12
-sub-t12 c = let a = c .before .before .before .before .before .before .before .before .before .before .args in left-in (a .policy) (lent (a .numbers .now) (a .facts .now) (a .valuation .now) (a .verdicts .now)) (a .message .now) _ (c .before .before .before .first-step .ensures)
+sub-t12 c = let a = c .before .before .before .before .before .before .before .before .before .before .args in left-in (a .policy) (a .message .now) _ (c .before .before .before .first-step .ensures)
 
 returns : tie.Need-returns
 returns c =
     let a = c .before .before .before .before .before .before .before .before .before .before .args in
-    take-followed (a .policy) (lent (a .numbers .now) (a .facts .now) (a .valuation .now) (a .verdicts .now)) (a .message .now) _ (c .before .before .before .first-step .ensures) (c .before .if1 .taken)
+    λ o. take-followed (a .policy) (a .message .now) _ (c .before .before .before .first-step .ensures) (lent (a .numbers .now) (a .facts .now) (a .valuation .now) (a .verdicts .now) o) (c .before .if1 .taken)
 
 settle-message-requires : tie.Need-settle-message-requires
 settle-message-requires c κs =
     let s = c .before .before .before .before .before .before .before .before .before .before .before .before .before .before in
     let a = s .args in
-    (s .pre .0, s .pre .1, s .pre .2, read-ranged (a .policy) (lent (a .numbers .now) (a .facts .now) (a .valuation .now) (a .verdicts .now)) (a .message .now) _ (c .before .before .before .before .before .before .before .first-step .ensures) (s .pre .0) (c .before .before .before .before .before .if1 .left))
+    (s .pre .0, s .pre .1, s .pre .2, read-ranged (a .policy) (a .message .now) _ (c .before .before .before .before .before .before .before .first-step .ensures) (s .pre .0) (c .before .before .before .before .before .if1 .left))
 
 same-length : tie.Need-same-length
 same-length c = search needs
@@ -38,7 +38,7 @@ same-length-4 c = search needs
 returns-2 : tie.Need-returns-2
 returns-2 c =
     let a = c .before .before .before .before .before .before .before .before .before .before .before .before .before .before .before .before .before .before .before .before .before .before .before .args in
-    take-alone (a .policy) (lent (a .numbers .now) (a .facts .now) (a .valuation .now) (a .verdicts .now)) (a .message .now) _ (c .before .before .before .before .before .before .before .before .before .before .before .before .before .before .before .before .first-step .ensures) _ (c .before .before .before .before .before .before .before .before .before .before .before .before .before .before .if1 .left) (c .before .before .before .before .before .before .before .before .settle-message .ensures)
+    λ o. take-alone (a .policy) (a .message .now) _ (c .before .before .before .before .before .before .before .before .before .before .before .before .before .before .before .before .first-step .ensures) (lent (a .numbers .now) (a .facts .now) (a .valuation .now) (a .verdicts .now) o) _ (c .before .before .before .before .before .before .before .before .before .before .before .before .before .before .if1 .left) (c .before .before .before .before .before .before .before .before .settle-message .ensures o)
 
 pub take-message-spec : {M : Type 1} → statement M
 take-message-spec =

@@ -1,5 +1,6 @@
 -- Where none is taken nothing is written; else the sheets over what is stored are those that the last take leaves.
 -- Assumes nothing.
+use Rattle.knowledge.specs.Run.{held}
 use Rattle.monitor.specs.State.{lent}
 use Rattle.monitor.specs.Laws.{knowledge-sized}
 use Rattle.monitor.proofs.Settling.{limits}
@@ -12,7 +13,7 @@ store-messages-requires : tie.Need-store-messages-requires
 store-messages-requires c κs =
     let s = c .before .before .before .before .before .before .before .before in
     let a = s .args in
-    (limits (a .policy) (s .pre .0), knowledge-sized (a .policy) (lent (a .numbers .now) (a .facts .now) (a .valuation .now) (a .verdicts .now)) (s .pre .1), s .pre .2)
+    (limits (a .policy) (s .pre .0), knowledge-sized (a .policy) (s .pre .1), s .pre .2)
 
 same-length : tie.Need-same-length
 same-length c = search needs
@@ -23,13 +24,13 @@ same-length-2 c = search needs
 returns : tie.Need-returns
 returns c =
     let a = c .before .before .before .before .before .before .before .before .before .before .before .before .before .before .before .args in
-    none-taken (a .policy) (lent (a .numbers .now) (a .facts .now) (a .valuation .now) (a .verdicts .now)) (a .packet .now) _ _ _ (c .before .before .before .before .before .before .store-messages .ensures) (c .if1 .taken)
+    λ o. none-taken (a .policy) (lent (a .numbers .now) (a .facts .now) (a .valuation .now) (a .verdicts .now) o) (a .packet .now) _ _ _ (c .before .before .before .before .before .before .store-messages .ensures) (c .if1 .taken)
 
 rewrite-sheets-requires : tie.Need-rewrite-sheets-requires
 rewrite-sheets-requires c κs =
     let s = c .before .before .before .before .before .before .before .before .before .before .before .before .before .before .before .before .before .before .before in
     let a = s .args in
-    let n = some-needs (a .policy) (lent (a .numbers .now) (a .facts .now) (a .valuation .now) (a .verdicts .now)) (a .packet .now) _ _ _ (c .before .before .before .before .before .before .before .before .before .before .store-messages .ensures) (s .pre .0) (s .pre .1) (s .pre .2) in
+    let n = some-needs (a .policy) (held (a .numbers .now) (a .facts .now)) (a .valuation .now) (a .verdicts .now) (a .packet .now) _ _ _ (c .before .before .before .before .before .before .before .before .before .before .store-messages .ensures) (s .pre .0) (s .pre .1) (s .pre .2) in
     (s .pre .0, n .0, n .1)
 
 same-length-3 : tie.Need-same-length-3
@@ -47,7 +48,7 @@ same-length-6 c = search needs
 returns-2 : tie.Need-returns-2
 returns-2 c =
     let a = c .before .before .before .before .before .before .before .before .before .before .before .before .before .before .before .before .before .before .before .before .before .before .before .before .args in
-    some-taken (a .policy) (lent (a .numbers .now) (a .facts .now) (a .valuation .now) (a .verdicts .now)) (a .packet .now) _ _ _ (c .before .before .before .before .before .before .before .before .before .before .before .before .before .before .before .store-messages .ensures) _ _ _ (c .before .before .before .before .before .before .before .before .before .if1 .left) (c .before .before .before .before .rewrite-sheets .ensures)
+    λ o. some-taken (a .policy) (lent (a .numbers .now) (a .facts .now) (a .valuation .now) (a .verdicts .now) o) (a .packet .now) _ _ _ (c .before .before .before .before .before .before .before .before .before .before .before .before .before .before .before .store-messages .ensures) _ _ _ (c .before .before .before .before .before .before .before .before .before .if1 .left) (c .before .before .before .before .rewrite-sheets .ensures o)
 
 pub take-packet-spec : {M : Type 1} → statement M
 take-packet-spec =

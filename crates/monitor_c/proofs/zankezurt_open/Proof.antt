@@ -26,8 +26,11 @@ same-length-3 c = search needs
 same-length-4 : tie.Need-same-length-4
 same-length-4 c = search needs
 
+same-length-5 : tie.Need-same-length-5
+same-length-5 c = search needs
+
 returns : tie.Need-returns
-returns c = handed _ _ _ _ _ (c .before .before .before .before .before .before .before .before .before .before .open .ensures) (c .before .answer-detail .ensures) (c .answer-number .ensures)
+returns c = handed _ _ _ _ _ (c .before .before .before .before .before .before .before .before .before .before .before .before .open .ensures) (c .before .answer-detail .ensures) (c .answer-number .ensures)
 
 pub zankezurt-open-spec : {M : Type 1} → statement M
 zankezurt-open-spec =
@@ -40,4 +43,5 @@ zankezurt-open-spec =
     same-length-2
     same-length-3
     same-length-4
+    same-length-5
     returns)

@@ -26,8 +26,11 @@ same-length-3 c = search needs
 same-length-4 : tie.Need-same-length-4
 same-length-4 c = search needs
 
+same-length-5 : tie.Need-same-length-5
+same-length-5 c = search needs
+
 returns : tie.Need-returns
-returns c = handed-packet _ _ _ _ _ (c .before .before .before .before .before .before .before .before .before .before .receive-packet .ensures) (c .before .stop-place .ensures) (c .stop-number .ensures)
+returns c = handed-packet _ _ _ _ _ (c .before .before .before .before .before .before .before .before .before .before .before .before .receive-packet .ensures) (c .before .stop-place .ensures) (c .stop-number .ensures)
 
 pub zankezurt-receive-packet-spec : {M : Type 1} → statement M
 zankezurt-receive-packet-spec =
@@ -40,4 +43,5 @@ zankezurt-receive-packet-spec =
     same-length-2
     same-length-3
     same-length-4
+    same-length-5
     returns)

@@ -8,11 +8,11 @@ use Rattle.monitor_vectors.proofs.show_messages.Statement.{statement}
 use Rattle.monitor_vectors.proofs.show_messages.Tie as tie
 
 abbrev Inv-loop : tie.InvT-loop
-Inv-loop policy messages numbers₀ facts₀ valuation₀ verdicts₀ at₀ numbers facts valuation verdicts at =
-    (at ≤ length messages) × (length numbers ≡ length numbers₀) × (length facts ≡ length facts₀) × (length valuation ≡ length valuation₀) × (length verdicts ≡ length verdicts₀)
+Inv-loop policy messages numbers₀ facts₀ valuation₀ verdicts₀ origin₀ extent₀ at₀ numbers facts valuation verdicts origin extent at =
+    (at ≤ length messages) × (length numbers ≡ length numbers₀) × (length facts ≡ length facts₀) × (length valuation ≡ length valuation₀) × (length verdicts ≡ length verdicts₀) × (length origin ≡ length origin₀)
 
 abbrev μ-loop : tie.MeasureT-loop
-μ-loop policy messages numbers₀ facts₀ valuation₀ verdicts₀ at₀ numbers facts valuation verdicts at =
+μ-loop policy messages numbers₀ facts₀ valuation₀ verdicts₀ origin₀ extent₀ at₀ numbers facts valuation verdicts origin extent at =
     length messages - at
 
 loop-holds : tie.Need-loop-holds Inv-loop μ-loop
@@ -57,6 +57,9 @@ same-length-3 c = search needs
 same-length-4 : tie.Need-same-length-4 Inv-loop μ-loop
 same-length-4 c = search needs
 
+same-length-5 : tie.Need-same-length-5 Inv-loop μ-loop
+same-length-5 c = search needs
+
 returns : tie.Need-returns Inv-loop μ-loop
 returns c = search needs
 
@@ -80,4 +83,5 @@ show-messages-spec =
     same-length-2
     same-length-3
     same-length-4
+    same-length-5
     returns)

@@ -72,6 +72,12 @@ enum-told-10 c = search needs
 place-requires-8 : tie.Need-place-requires-8
 place-requires-8 c κs = search needs
 
+enum-told-11 : tie.Need-enum-told-11
+enum-told-11 c = search needs
+
+place-requires-9 : tie.Need-place-requires-9
+place-requires-9 c κs = search needs
+
 returns : tie.Need-returns
 returns c = search needs
 
@@ -105,6 +111,9 @@ returns-10 c = search needs
 returns-11 : tie.Need-returns-11
 returns-11 c = search needs
 
+returns-12 : tie.Need-returns-12
+returns-12 c = search needs
+
 pub place-in-packet-spec : {M : Type 1} → statement M
 place-in-packet-spec =
     tie.close
@@ -129,6 +138,8 @@ place-in-packet-spec =
     place-requires-7
     enum-told-10
     place-requires-8
+    enum-told-11
+    place-requires-9
     returns
     returns-2
     returns-3
@@ -139,4 +150,5 @@ place-in-packet-spec =
     returns-8
     returns-9
     returns-10
-    returns-11)
+    returns-11
+    returns-12)

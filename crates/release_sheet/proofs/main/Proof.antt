@@ -75,6 +75,9 @@ slice-aggregate-run-5 c = search needs
 slice-aggregate-run-6 : tie.Need-slice-aggregate-run-6
 slice-aggregate-run-6 c = search needs
 
+slice-aggregate-run-7 : tie.Need-slice-aggregate-run-7
+slice-aggregate-run-7 c = search needs
+
 run-requires : tie.Need-run-requires
 run-requires c κs = (
   record {
@@ -82,6 +85,7 @@ run-requires c κs = (
     facts = length-replicate {A = ℕ} 2048 0;
     valuation = length-replicate {A = ℕ} 65536 0;
     verdicts = length-replicate {A = ℕ} 8192 0;
+    origin = length-replicate {A = ℕ} 517 0;
   },
   search needs,
   search needs,
@@ -118,5 +122,6 @@ main-spec =
     slice-aggregate-run-4
     slice-aggregate-run-5
     slice-aggregate-run-6
+    slice-aggregate-run-7
     run-requires
     returns-2)

@@ -2,6 +2,7 @@
 -- that are left, which are the measure, and adds one to what was taken or refused. Assumes nothing.
 use Prim.Native.Nat.{_+_, _≤_}
 use mathlib.Core.Path.{_≡_}
+use native.Mathlib.Omega.{arith}
 use lib.ListN.{length}
 use Rattle.release_sheet.specs.Arrays.{Largest}
 use borrow.Author.Needs.{needs}
@@ -9,11 +10,11 @@ use Rattle.release_sheet.proofs.receive_all.Statement.{statement}
 use Rattle.release_sheet.proofs.receive_all.Tie as tie
 
 abbrev Inv-loop : tie.InvT-loop
-Inv-loop policy parts buffer₀ numbers₀ facts₀ valuation₀ verdicts₀ tally₀ turns₀ w₀ buffer numbers facts valuation verdicts tally turns w =
-    (tally .taken + tally .refused + turns ≡ 18446744073709551615) × (w .at ≤ w .end) × (w .end ≤ length buffer) × (length buffer ≡ length buffer₀) × Largest numbers facts valuation verdicts
+Inv-loop policy parts buffer₀ numbers₀ facts₀ valuation₀ verdicts₀ origin₀ extent₀ tally₀ turns₀ w₀ buffer numbers facts valuation verdicts origin extent tally turns w =
+    (tally .taken + tally .refused + turns ≡ 18446744073709551615) × (w .at ≤ w .end) × (w .end ≤ length buffer) × (length buffer ≡ length buffer₀) × Largest numbers facts valuation verdicts origin
 
 abbrev μ-loop : tie.MeasureT-loop
-μ-loop policy parts buffer₀ numbers₀ facts₀ valuation₀ verdicts₀ tally₀ turns₀ w₀ buffer numbers facts valuation verdicts tally turns w =
+μ-loop policy parts buffer₀ numbers₀ facts₀ valuation₀ verdicts₀ origin₀ extent₀ tally₀ turns₀ w₀ buffer numbers facts valuation verdicts origin extent tally turns w =
     turns
 
 loop-holds : tie.Need-loop-holds Inv-loop μ-loop
@@ -59,7 +60,10 @@ loop-less : tie.Need-loop-less Inv-loop μ-loop
 loop-less c = search needs
 
 loop-again : tie.Need-loop-again Inv-loop μ-loop
-loop-again c = search needs
+loop-again c =
+    let i = c .before .before .before .before .before .before .before .before .before .before .before .before .before .before .before .before .before .before .before .before .before .before .before .before .before .before .before .before .before .before .loop .inv in
+    let l = i .4 in
+    omega (arith, i .0, i .3, l .numbers, l .facts, l .valuation, l .verdicts, l .origin, c .before .before .before .before .before .before .before .before .before .before .before .before .before .before .before .before .before .before .before .before .before .before .before .before .before .before .before .before .before .loop-test .taken, c .counted .ensures .1)
 
 same-length : tie.Need-same-length Inv-loop μ-loop
 same-length c = search needs
@@ -76,11 +80,11 @@ same-length-4 c = search needs
 same-length-5 : tie.Need-same-length-5 Inv-loop μ-loop
 same-length-5 c = search needs
 
-returns : tie.Need-returns Inv-loop μ-loop
-returns c = search needs
-
 same-length-6 : tie.Need-same-length-6 Inv-loop μ-loop
 same-length-6 c = search needs
+
+returns : tie.Need-returns Inv-loop μ-loop
+returns c = search needs
 
 same-length-7 : tie.Need-same-length-7 Inv-loop μ-loop
 same-length-7 c = search needs
@@ -93,6 +97,12 @@ same-length-9 c = search needs
 
 same-length-10 : tie.Need-same-length-10 Inv-loop μ-loop
 same-length-10 c = search needs
+
+same-length-11 : tie.Need-same-length-11 Inv-loop μ-loop
+same-length-11 c = search needs
+
+same-length-12 : tie.Need-same-length-12 Inv-loop μ-loop
+same-length-12 c = search needs
 
 returns-2 : tie.Need-returns-2 Inv-loop μ-loop
 returns-2 c = search needs
@@ -123,10 +133,12 @@ receive-all-spec =
     same-length-3
     same-length-4
     same-length-5
-    returns
     same-length-6
+    returns
     same-length-7
     same-length-8
     same-length-9
     same-length-10
+    same-length-11
+    same-length-12
     returns-2)

@@ -1,12 +1,12 @@
--- A buffer that a loop filled from the front: it is the table of what was written, or all zeros. Assumes nothing.
+-- A buffer that a loop filled from the front: it is the table of what was written, or all zeros.
 use mathlib.Core.Path.{_≡_, sym, _∙_}
 use mathlib.Core.List.{List}
 use Prim.Native.Nat.{ℕ, _<_, zero-le}
 use lib.ListN.{length, replicate, length-replicate}
 use lib.Seq.{ext-getD}
 use Rattle.rows.specs.Over.{Over}
 use Rattle.rows.specs.Laws.{zeros}
 use Rattle.rows.specs.Grid.{table, table-length, table-at}
 
 pub filled : (F : ℕ → ℕ) (old new : List ℕ) → Over F 0 (length old) old new → new ≡ table (length old) F
 filled F old new o =

@@ -1,0 +1,2 @@
+-- Which policy a state was opened under.
+pub mod Origin
