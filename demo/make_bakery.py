@@ -3,7 +3,7 @@
 import struct
 import sys
 
-TRUE, PROPOSITION, NOT, OR, SINCE, UNTIL = range(6)
+TRUE, PROPOSITION, NOT, OR, SINCE, UNTIL, AND, IMPLIES, ONCE, HISTORICALLY, EVENTUALLY, ALWAYS = range(12)
 
 
 def fields(flags, *parts):
@@ -35,17 +35,14 @@ MIXER, CHILLER = 0, 1
 MINUTES = 480
 
 SUBFORMULAS = [
-    subformula(TRUE),
     subformula(PROPOSITION, NAMES.index("cleaned")),
     subformula(PROPOSITION, NAMES.index("nut_free")),
     subformula(PROPOSITION, NAMES.index("filled")),
     subformula(PROPOSITION, NAMES.index("chilled")),
-    subformula(SINCE, 0, 1, upper=240),
-    subformula(NOT, 2),
-    subformula(OR, 6, 5, rule=True),
-    subformula(UNTIL, 0, 4, upper=90),
-    subformula(NOT, 3),
-    subformula(OR, 9, 8, rule=True),
+    subformula(ONCE, 0, upper=240),
+    subformula(IMPLIES, 1, 4, rule=True),
+    subformula(EVENTUALLY, 3, upper=90),
+    subformula(IMPLIES, 2, 6, rule=True),
 ]
 
 

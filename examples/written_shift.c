@@ -1,16 +1,15 @@
-/* Writes the policy of the small shift and two of its messages from their fields, prints their bytes, opens a state under that policy,
-   takes the messages and prints the verdicts that stand. */
+/* Writes a policy with the small shift's rule, and two of that shift's messages, from their fields, prints their bytes, opens a state
+   under that policy, takes the messages and prints the verdicts that stand. */
 #include <stdio.h>
 
 #include "zankezurt.h"
 
-enum { PROPOSITIONS = 1, COMPONENTS = 1, MINUTES = 4, SUBFORMULAS = 3, RULES = 1 };
+enum { PROPOSITIONS = 1, COMPONENTS = 1, MINUTES = 4, SUBFORMULAS = 2, RULES = 1 };
 
 /* Mark 0 at some time in the last 2 minutes. There are always 64 lines in memory, and the first ones are written. */
 static const struct zankezurt_line lines[64] = {
-    {.kind = 0},                                                 /* 0: true */
-    {.kind = 1, .first = 0},                                     /* 1: mark 0 */
-    {.kind = 4, .first = 0, .second = 1, .upper = 2, .rule = 1}, /* 2: line 0 since line 1, up to 2 minutes back */
+    {.kind = ZANKEZURT_KIND_PROPOSITION, .first = 0},                 /* 0: mark 0 */
+    {.kind = ZANKEZURT_KIND_ONCE, .first = 0, .upper = 2, .rule = 1}, /* 1: once line 0, up to 2 minutes back */
 };
 
 static uint8_t policy[ZANKEZURT_POLICY_LENGTH];

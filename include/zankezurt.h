@@ -96,8 +96,24 @@ enum zankezurt_verdict {
     numbers, numbers_length, facts, facts_length, valuation, valuation_length, verdicts, verdicts_length, origin, origin_length, \
         extent
 
-/* One line of a policy, as zankezurt_encode_policy wants it: what its kind has no use for is 0. docs/FORMAT.md has the kinds and the
-   ranges. */
+/* The kinds of a line. The last six are abbreviations: each has the same value, at every minute, as what it stands for. */
+enum zankezurt_kind {
+    ZANKEZURT_KIND_TRUE = 0,
+    ZANKEZURT_KIND_PROPOSITION = 1,
+    ZANKEZURT_KIND_NOT = 2,
+    ZANKEZURT_KIND_OR = 3,
+    ZANKEZURT_KIND_SINCE = 4,
+    ZANKEZURT_KIND_UNTIL = 5,
+    ZANKEZURT_KIND_AND = 6,          /* not (not first or not second) */
+    ZANKEZURT_KIND_IMPLIES = 7,      /* not first, or second */
+    ZANKEZURT_KIND_ONCE = 8,         /* true since first */
+    ZANKEZURT_KIND_HISTORICALLY = 9, /* not once not first */
+    ZANKEZURT_KIND_EVENTUALLY = 10,  /* true until first */
+    ZANKEZURT_KIND_ALWAYS = 11       /* not eventually not first */
+};
+
+/* One line of a policy, as zankezurt_encode_policy wants it: what its kind has no use for is 0. docs/FORMAT.md has each kind's fields
+   and the ranges. */
 struct zankezurt_line {
     uint16_t kind, first, second, lower, upper;
     uint16_t rule; /* 0 no, any other number yes */

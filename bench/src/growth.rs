@@ -1,7 +1,7 @@
 //! How a take's time grows with the minutes and with the subformulas.
 
 use crate::contender::Contender;
-use crate::timing::{in_turns, Spread};
+use crate::timing::{under_each, Spread};
 use crate::workload::{Record, Shape, Workload};
 
 /// A size, and the least time measured of a take at that size, in seconds.
@@ -13,13 +13,8 @@ pub struct Point {
 /// The least time of the monitor's take for each shape and a record, measured in turns; sizes are the numbers shown.
 pub fn points(shapes: &[(usize, Shape)], record: Record, samples: usize) -> Vec<Point> {
     let mut workloads: Vec<Workload> = shapes.iter().map(|(_, shape)| Workload::new(shape, record)).collect();
-    let mut times = vec![f64::INFINITY; shapes.len()];
-    for _ in 0..samples {
-        for (workload, least) in workloads.iter_mut().zip(&mut times) {
-            *least = least.min(Spread::of(in_turns(&[&Contender::Monitor], workload, 1).remove(0)).least());
-        }
-    }
-    shapes.iter().zip(times).map(|((size, _), time)| Point { size: *size, time }).collect()
+    let times = under_each(&Contender::Monitor, &mut workloads, samples);
+    shapes.iter().zip(times).map(|((size, _), times)| Point { size: *size, time: Spread::of(times).least() }).collect()
 }
 
 /// The slope of the best line through the points on logarithmic scales.

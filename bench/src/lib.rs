@@ -1,8 +1,10 @@
 //! Measures a take of the monitor beside three others: the same algorithm in safe Rust, the direct reading of the definition,
 //! and the floor, which only writes each cell of both sheets once; and a packet beside the takes of its messages. The record is full, and
-//! for a take also empty and known in bunches. And the takes of two archives beside each other; and the two writers.
+//! for a take also empty and known in bunches; its lines are since and until, or abbreviations. And the takes under the demo's rules, with
+//! abbreviations and without; the takes of two archives beside each other; and the two writers.
 
 pub mod contender;
+pub mod demo;
 pub mod growth;
 pub mod instructions;
 pub mod packet;

@@ -1,15 +1,16 @@
 //! Prints what a take, a packet and a text that is written cost: `bench`. `bench packet COUNT` prints a packet of that many messages
-//! alone, `bench writing` the writers alone, `bench take NAME COUNT` only makes the takes, with a full record or with that of a third
-//! word: `full`, `empty` or `bunched`, and `bench placed OLD.. NEW..` compares the takes of two archives, each linked at the same
-//! places.
+//! alone, `bench kinds` the takes under abbreviations alone, `bench writing` the writers alone, `bench take NAME COUNT` only makes the
+//! takes, with a full record or with that of a third word: `full`, `empty` or `bunched`, and with lines of the kinds of a fourth:
+//! `primitive` or `abbreviated`, and `bench placed OLD.. NEW..` compares the takes of two archives, each linked at the same places.
 
 use bench::contender::{Contender, ALL};
+use bench::demo;
 use bench::growth::{added, points, slope};
 use bench::instructions;
 use bench::packet;
 use bench::placed::Placed;
-use bench::timing::{in_turns, ratios, Spread, Take};
-use bench::workload::{Record, Shape, Workload, LARGEST};
+use bench::timing::{in_turns, ratios, under_each, Spread, Take};
+use bench::workload::{Kinds, Record, Shape, Workload, LARGEST};
 use bench::writing;
 use std::env::args;
 
@@ -30,32 +31,38 @@ fn main() {
     let words: Vec<String> = args().skip(1).collect();
     match words.iter().map(String::as_str).collect::<Vec<_>>()[..] {
         [] => report(),
-        ["take", name, count] => takes(name, count.parse().expect("a count"), Record::Full.name()),
-        ["take", name, count, record] => takes(name, count.parse().expect("a count"), record),
+        ["take", name, count] => takes(name, count, Record::Full.name(), Kinds::Primitive.name()),
+        ["take", name, count, record] => takes(name, count, record, Kinds::Primitive.name()),
+        ["take", name, count, record, kinds] => takes(name, count, record, kinds),
         ["packet", count] => packets(count.parse().expect("a count")),
+        ["kinds"] => abbreviations(),
         ["writing"] => written(),
         ["placed", ref libraries @ ..] if libraries.len() % 2 == 0 => placed(libraries),
-        _ => panic!("usage: bench [take NAME COUNT [RECORD] | packet COUNT | writing | placed OLD.. NEW..]"),
+        _ => panic!(
+            "usage: bench [take NAME COUNT [RECORD [KINDS]] | packet COUNT | kinds | writing | placed OLD.. NEW..]"
+        ),
     }
 }
 
-fn takes(name: &str, count: usize, record: &str) {
+fn takes(name: &str, count: &str, record: &str, kinds: &str) {
     let contender = ALL.into_iter().find(|contender| contender.name() == name).expect("a contender's name");
     let record = Record::ALL.into_iter().find(|other| other.name() == record).expect("a record's name");
-    let mut workload = Workload::new(&LARGEST, record);
-    for _ in 0..count {
+    let kinds = Kinds::ALL.into_iter().find(|other| other.name() == kinds).expect("a name of kinds");
+    let mut workload = Workload::new(&Shape { kinds, ..LARGEST }, record);
+    for _ in 0..count.parse().expect("a count") {
         contender.take(&mut workload);
     }
 }
 
 fn report() {
-    compare(Record::Full, &ALL);
+    compare(Record::Full, Kinds::Primitive, &ALL);
     packets(PACKET);
-    count(Record::Full);
+    count(Record::Full, Kinds::Primitive);
     for record in [Record::Empty, Record::Bunched] {
-        compare(record, &QUICK);
-        count(record);
+        compare(record, Kinds::Primitive, &QUICK);
+        count(record, Kinds::Primitive);
     }
+    abbreviations();
     grow("minutes", &MINUTES, Record::Full, |minutes| Shape { minutes, ..LARGEST });
     // with one line the record's check and the time points are most of a take, and a search for each minute would show
     grow("minutes", &MINUTES, Record::Empty, |minutes| Shape { minutes, subformulas: 1, rules: 1, ..LARGEST });
@@ -66,16 +73,42 @@ fn report() {
     written();
 }
 
-/// The monitor beside others, with a record.
-fn compare(record: Record, contenders: &[Contender]) {
+/// Takes under lines that are abbreviations, and under the demo's rules with them and without.
+fn abbreviations() {
+    for record in Record::ALL {
+        compare(record, Kinds::Abbreviated, &QUICK);
+        count(record, Kinds::Abbreviated);
+    }
+    under_the_demo(Contender::Monitor);
+    under_the_demo(Contender::Plain);
+}
+
+/// The monitor beside others, with a record and lines of some kinds.
+fn compare(record: Record, kinds: Kinds, contenders: &[Contender]) {
     let Shape { propositions, components, minutes, subformulas, .. } = LARGEST;
-    let name = record.name();
-    println!("A take: {propositions} propositions, {components} components, {minutes} minutes, {subformulas} subformulas, {name} record\n");
+    println!(
+        "A take: {propositions} propositions, {components} components, {minutes} minutes, {subformulas} {} subformulas, {} record\n",
+        kinds.name(),
+        record.name()
+    );
     let measured: Vec<&dyn Take> = contenders.iter().map(|contender| contender as &dyn Take).collect();
-    let times = in_turns(&measured, &mut Workload::new(&LARGEST, record), SAMPLES);
+    let times = in_turns(&measured, &mut Workload::new(&Shape { kinds, ..LARGEST }, record), SAMPLES);
     heading("monitor");
     for (contender, of_it) in contenders.iter().zip(&times) {
         row(contender.describe(), of_it, &times[0]);
+    }
+    println!();
+}
+
+/// The demo's rules with the abbreviations beside the same without them, with a full record.
+fn under_the_demo(contender: Contender) {
+    let mut workloads = [demo::short(), demo::long()].map(|policy| Workload::under(policy, Record::Full));
+    let times = under_each(&contender, &mut workloads, SAMPLES);
+    println!("A take under the demo's rules, full record: {}\n", contender.describe());
+    let lines = workloads.each_ref().map(|workload| format!("{} lines", workload.policy.subformulas.len()));
+    heading(&lines[0]);
+    for (lines, of_it) in lines.iter().zip(&times) {
+        row(lines, of_it, &times[0]);
     }
     println!();
 }
@@ -139,11 +172,11 @@ fn three_digits(number: f64) -> String {
     format!("{number:.places$}")
 }
 
-/// Instructions of one take with a record.
-fn count(record: Record) {
+/// Instructions of one take with a record and lines of some kinds.
+fn count(record: Record, kinds: Kinds) {
     let cells = LARGEST.minutes * LARGEST.subformulas;
     for contender in QUICK {
-        match instructions::of_a_take(contender, record) {
+        match instructions::of_a_take(contender, record, kinds) {
             Ok(count) => {
                 println!(
                     "{:<50} {count:>12} instructions, {:.1} a cell of the work sheet",

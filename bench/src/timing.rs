@@ -80,6 +80,17 @@ pub fn in_turns(measured: &[&dyn Take], workload: &mut Workload, samples: usize)
     times
 }
 
+/// Seconds of a take under each workload in turn and so many times over; the rounds of one are those of the other.
+pub fn under_each(measured: &dyn Take, workloads: &mut [Workload], samples: usize) -> Vec<Vec<f64>> {
+    let mut times = vec![Vec::new(); workloads.len()];
+    for _ in 0..samples {
+        for (workload, times) in workloads.iter_mut().zip(&mut times) {
+            times.append(&mut in_turns(&[measured], workload, 1)[0]);
+        }
+    }
+    times
+}
+
 /// The first's time over the other's, round by round.
 pub fn ratios(first: &[f64], other: &[f64]) -> Spread {
     Spread::of(first.iter().zip(other).map(|(first, other)| first / other).collect())

@@ -3,7 +3,7 @@
 use oracle::generate::{encode_message, encode_policy, Random};
 use oracle::knowledge::{origin_of, NOT_KNOWN};
 use oracle::message::{Event, Message};
-use oracle::policy::{Formula, Policy, Subformula, Temporal, HIGHEST_BOUND};
+use oracle::policy::{Formula, Policy, Span, Subformula, Temporal, HIGHEST_BOUND};
 use oracle::Buffers;
 use zankezurt::State;
 
@@ -57,6 +57,54 @@ impl Record {
 const BUNCH: usize = 8;
 const HOUR: usize = 60;
 
+/// Which kinds the lines have that are no propositions.
+#[derive(Clone, Copy, Debug, PartialEq, Eq)]
+pub enum Kinds {
+    /// Since and until by turns.
+    Primitive,
+    /// And, implies, once, historically, eventually and always by turns.
+    Abbreviated,
+}
+
+impl Kinds {
+    pub const ALL: [Kinds; 2] = [Kinds::Primitive, Kinds::Abbreviated];
+
+    pub fn name(self) -> &'static str {
+        match self {
+            Kinds::Primitive => "primitive",
+            Kinds::Abbreviated => "abbreviated",
+        }
+    }
+
+    /// The line with this number, of these parts.
+    fn formula(self, line: usize, parts: Temporal) -> Formula {
+        match self {
+            Kinds::Primitive => primitive(line, parts),
+            Kinds::Abbreviated => abbreviated(line, parts),
+        }
+    }
+}
+
+fn primitive(line: usize, parts: Temporal) -> Formula {
+    if line.is_multiple_of(2) {
+        Formula::Since(parts)
+    } else {
+        Formula::Until(parts)
+    }
+}
+
+fn abbreviated(line: usize, Temporal { first, second, lower, upper }: Temporal) -> Formula {
+    let span = Span { first, lower, upper };
+    match line % 6 {
+        0 => Formula::And(first, second),
+        1 => Formula::Implies(first, second),
+        2 => Formula::Once(span),
+        3 => Formula::Historically(span),
+        4 => Formula::Eventually(span),
+        _ => Formula::Always(span),
+    }
+}
+
 #[derive(Clone, Copy)]
 pub struct Shape {
     pub propositions: usize,
@@ -67,16 +115,25 @@ pub struct Shape {
     pub rules: usize,
     /// A proposition stands in one of so many lines.
     pub spacing: usize,
+    /// What stands in the others.
+    pub kinds: Kinds,
 }
 
 /// The highest bound of a short interval.
 const SHORT: usize = 24;
 
-pub const LARGEST: Shape =
-    Shape { propositions: 32, components: 16, minutes: 1024, subformulas: 64, rules: 8, spacing: 8 };
+pub const LARGEST: Shape = Shape {
+    propositions: 32,
+    components: 16,
+    minutes: 1024,
+    subformulas: 64,
+    rules: 8,
+    spacing: 8,
+    kinds: Kinds::Primitive,
+};
 
-/// A policy of a shape: some propositions, and since and until by turns in the other lines, over random earlier ones. Half of the intervals
-/// are short, so that rows vary; the others reach up to the highest bound.
+/// A policy of a shape: some propositions, and the kinds by turns in the other lines, over random earlier ones. Half of the intervals are
+/// short, so that rows vary; the others reach up to the highest bound.
 fn policy(random: &mut Random, shape: &Shape) -> Policy {
     let first_rule = shape.subformulas - shape.subformulas.min(shape.rules);
     let subformulas = (0..shape.subformulas)
@@ -93,11 +150,7 @@ fn formula(random: &mut Random, line: usize, shape: &Shape) -> Formula {
     let lower = random.below(highest / 2);
     let upper = random.between(lower, highest);
     let parts = Temporal { first: random.below(line), second: random.below(line), lower, upper };
-    if line.is_multiple_of(2) {
-        Formula::Since(parts)
-    } else {
-        Formula::Until(parts)
-    }
+    shape.kinds.formula(line, parts)
 }
 
 /// A full record: every sequence number and every fact is known. A minute is a time point about every other time.
@@ -144,11 +197,22 @@ pub fn known_messages(policy: &Policy, buffers: &Buffers, count: usize) -> Vec<V
     (0..count).map(|i| encode_message(&message(i))).collect()
 }
 
+const SEED: u64 = 2_026;
+
 impl Workload {
     pub fn new(shape: &Shape, record: Record) -> Workload {
-        let mut random = Random::new(2_026);
+        let mut random = Random::new(SEED);
         let policy = policy(&mut random, shape);
-        let mut buffers = full_record(&mut random, &policy);
+        Workload::with(&mut random, policy, record)
+    }
+
+    /// A take under this policy; policies of the same sizes have the same record.
+    pub fn under(policy: Policy, record: Record) -> Workload {
+        Workload::with(&mut Random::new(SEED), policy, record)
+    }
+
+    fn with(random: &mut Random, policy: Policy, record: Record) -> Workload {
+        let mut buffers = full_record(random, &policy);
         record.thin(&policy, &mut buffers);
         let message = known_message(&policy, &buffers);
         let encoded = encode_policy(&policy);

@@ -3,7 +3,7 @@
 use crate::growth::Point;
 use crate::workload::LARGEST;
 use std::time::Instant;
-use zankezurt::{encode_message, encode_policy, Line, Message, MESSAGE_LENGTH, POLICY_LENGTH};
+use zankezurt::{encode_message, encode_policy, kind, Line, Message, MESSAGE_LENGTH, POLICY_LENGTH};
 
 /// How many times over each is written in a sample.
 const TIMES: u32 = 1_000;
@@ -33,8 +33,8 @@ fn least(samples: usize, write: impl Fn()) -> f64 {
 fn line(number: usize) -> Line {
     let last = number.wrapping_sub(1) as u16;
     match number {
-        0 => Line { kind: 1, first: LARGEST.propositions as u16 - 1, rule: 1, ..Line::default() },
-        _ => Line { kind: 5, first: last, second: last, lower: 1, upper: 1023, rule: 0 },
+        0 => Line { kind: kind::PROPOSITION, first: LARGEST.propositions as u16 - 1, rule: 1, ..Line::default() },
+        _ => Line { kind: kind::UNTIL, first: last, second: last, lower: 1, upper: 1023, rule: 0 },
     }
 }
 

@@ -26,16 +26,18 @@ static void append(const uint8_t *bytes, size_t length)
     policy_length += length;
 }
 
-/* A mark, and then since and until by turns over it, up to 1,023 minutes; the last lines are rules. */
+/* A mark, and then by turns the kinds that look back or on, over it and up to 1,023 minutes; the last lines are rules. */
 static void write_policy(void)
 {
+    static const uint8_t kinds[] = {ZANKEZURT_KIND_SINCE,        ZANKEZURT_KIND_UNTIL,      ZANKEZURT_KIND_ONCE,
+                                    ZANKEZURT_KIND_HISTORICALLY, ZANKEZURT_KIND_EVENTUALLY, ZANKEZURT_KIND_ALWAYS};
     const uint8_t heading[] = {PROPOSITIONS, COMPONENTS, MINUTES & 0xFF, MINUTES >> 8, SUBFORMULAS};
     const uint8_t mark[] = {0x01, 0x01};
     append(heading, sizeof heading);
     append(mark, sizeof mark);
     for (int line = 1; line < SUBFORMULAS; line++) {
         const uint8_t rule = line >= SUBFORMULAS - RULES ? 0x20 : 0x00;
-        const uint8_t temporal[] = {rule | 0x11, line % 2 ? 0x04 : 0x05, 0xFF, 0x03};
+        const uint8_t temporal[] = {rule | 0x11, kinds[(size_t)line % sizeof kinds], 0xFF, 0x03};
         append(temporal, sizeof temporal);
     }
 }
@@ -73,10 +75,11 @@ static void call_encode_policy(void)
 {
     static struct zankezurt_line lines[SUBFORMULAS];
     static uint8_t out[ZANKEZURT_POLICY_LENGTH];
-    lines[0] = (struct zankezurt_line){.kind = 1, .first = PROPOSITIONS - 1};
+    lines[0] = (struct zankezurt_line){.kind = ZANKEZURT_KIND_PROPOSITION, .first = PROPOSITIONS - 1};
     for (uint16_t line = 1; line < SUBFORMULAS; line++) {
         const uint16_t last = line - 1, rule = line >= SUBFORMULAS - RULES;
-        lines[line] = (struct zankezurt_line){.kind = 5, .first = last, .second = last, .lower = 1, .upper = 1023, .rule = rule};
+        lines[line] = (struct zankezurt_line){
+            .kind = ZANKEZURT_KIND_UNTIL, .first = last, .second = last, .lower = 1, .upper = 1023, .rule = rule};
     }
     refusal = zankezurt_encode_policy(PROPOSITIONS, COMPONENTS, MINUTES, SUBFORMULAS, lines, out, sizeof out, &detail);
 }

@@ -1,8 +1,8 @@
 //! The algorithm in safe Rust is the monitor's: same answers and same buffers after every message of random lists, and with every record
 //! that is measured.
 
-use bench::plain;
-use bench::workload::{lent, Record, Shape, Workload, LARGEST};
+use bench::workload::{lent, Kinds, Record, Shape, Workload, LARGEST};
+use bench::{demo, plain};
 use oracle::generate::{self, Limits, Random};
 use oracle::Buffers;
 
@@ -57,11 +57,28 @@ fn compare_record(random: &mut Random, shape: &Shape, record: Record) {
 #[test]
 fn is_the_same_with_the_records_that_are_measured() {
     let mut random = Random::new(3);
-    for record in Record::ALL {
+    let pairs = Kinds::ALL.into_iter().flat_map(|kinds| Record::ALL.map(|record| (kinds, record)));
+    for (kinds, record) in pairs {
         for minutes in [1, 7, 8, 9, 60, 128, 1_000] {
-            compare_record(&mut random, &Shape { minutes, ..LARGEST }, record);
+            compare_record(&mut random, &Shape { minutes, kinds, ..LARGEST }, record);
         }
-        (0..4).for_each(|_| compare_record(&mut random, &LARGEST, record));
+        (0..4).for_each(|_| compare_record(&mut random, &Shape { kinds, ..LARGEST }, record));
+    }
+}
+
+/// Under the demo's rules, with abbreviations and without them, the same message leaves the same verdicts.
+#[test]
+fn the_demos_rules_have_the_same_verdicts_either_way() {
+    assert_eq!((demo::short().subformulas.len(), demo::long().subformulas.len()), (8, 11));
+    for record in Record::ALL {
+        let verdicts = [demo::short(), demo::long()].map(|policy| {
+            let Workload { encoded, message, mut buffers, .. } = Workload::under(policy, record);
+            let mut other = buffers.clone();
+            assert!(both(&encoded, &message, &mut buffers, &mut other));
+            buffers.verdicts
+        });
+        assert_eq!(verdicts[0], verdicts[1]);
+        assert_eq!(verdicts[0].contains(&1) && verdicts[0].contains(&2), record != Record::Empty);
     }
 }
 

@@ -9,13 +9,13 @@ pub const MESSAGE_LENGTH: usize = 14;
 #[derive(Clone, Copy, Debug, Default, PartialEq, Eq, Hash)]
 #[repr(C)]
 pub struct Line {
-    /// 0 true, 1 a proposition, 2 not, 3 or, 4 since, 5 until.
+    /// One of those in [`kind`](mod@crate::kind).
     pub kind: u16,
     /// The proposition, or the first operand: the number of an earlier line.
     pub first: u16,
     /// The second operand, the number of an earlier line.
     pub second: u16,
-    /// From how many minutes away a since or until looks.
+    /// From how many minutes away a line looks that looks back or on.
     pub lower: u16,
     /// To how many minutes away.
     pub upper: u16,

@@ -74,18 +74,17 @@
 //! [`encode_policy`] and [`encode_message`] write what the others read, from numbers and into lent memory too:
 //!
 //! ```
-//! use zankezurt::{encode_message, encode_policy, Line, Message, MESSAGE_LENGTH, POLICY_LENGTH};
+//! use zankezurt::{encode_message, encode_policy, kind, Line, Message, MESSAGE_LENGTH, POLICY_LENGTH};
 //!
-//! // mark 0 at some time in the last 2 minutes: true, mark 0, and the rule "line 0 since line 1, from 0 to 2 minutes back"
+//! // mark 0 at some time in the last 2 minutes: mark 0, and the rule "once line 0, from 0 to 2 minutes back"
 //! let lines = [
-//!     Line::default(),
-//!     Line { kind: 1, ..Line::default() },
-//!     Line { kind: 4, second: 1, upper: 2, rule: 1, ..Line::default() },
+//!     Line { kind: kind::PROPOSITION, first: 0, ..Line::default() },
+//!     Line { kind: kind::ONCE, first: 0, upper: 2, rule: 1, ..Line::default() },
 //! ];
 //! let mut policy = [0; POLICY_LENGTH];
 //! let length = encode_policy(1, 1, 4, &lines, &mut policy)?;
 //! let policy = &policy[..length];
-//! assert_eq!(policy, [0x01, 0x01, 0x04, 0x00, 0x03, 0x00, 0x01, 0x01, 0x35, 0x04, 0x01, 0x02, 0x00]);
+//! assert_eq!(policy, [0x01, 0x01, 0x04, 0x00, 0x02, 0x01, 0x01, 0x31, 0x08, 0x02, 0x00]);
 //!
 //! // an observation at minute 2, sequence number 2: mark 0 is true
 //! let observation = Message { minute: 2, number: 2, named: 1, values: 1, ..Message::default() };
@@ -112,6 +111,7 @@ extern crate alloc;
 mod archive;
 mod calls;
 mod fields;
+pub mod kind;
 mod refusal;
 #[cfg(feature = "alloc")]
 mod shift;

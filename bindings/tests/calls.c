@@ -1,4 +1,5 @@
-/* Calls from C with empty and NULL bytes, packets, states of other policies, fields to write, and the version; prints the version. */
+/* Calls from C with empty and NULL bytes, packets, states of other policies, fields to write, lines of every kind, and the version; prints
+   the version. */
 #include <stdio.h>
 #include <stdlib.h>
 #include <string.h>
@@ -83,7 +84,11 @@ static uint8_t look_under(const uint8_t *bytes, size_t length)
 /* The policy's lines, and anything past them. */
 static void fill_fields(void)
 {
-    static const struct zankezurt_line lines[SUBFORMULAS] = {{0, 0, 0, 0, 0, 0}, {1, 0, 0, 0, 0, 0}, {4, 0, 1, 0, 2, 1}};
+    static const struct zankezurt_line lines[SUBFORMULAS] = {
+        {.kind = ZANKEZURT_KIND_TRUE},
+        {.kind = ZANKEZURT_KIND_PROPOSITION},
+        {.kind = ZANKEZURT_KIND_SINCE, .second = 1, .upper = 2, .rule = 1},
+    };
     memset(fields, 0xFF, sizeof fields);
     memcpy(fields, lines, sizeof lines);
 }
@@ -137,6 +142,53 @@ static void write_policies(void)
     expect("3 lines and 256", encode_policy(SUBFORMULAS + 256, sizeof out), ZANKEZURT_BAD_HEADING);
     expect("very many lines", encode_policy(SIZE_MAX, sizeof out), ZANKEZURT_BAD_HEADING);
     expect_written("a buffer for what is refused", policy, 0);
+}
+
+/* A line of every kind, and the bytes of the policy. */
+enum { KINDS = 12 };
+static const struct zankezurt_line of_each_kind[KINDS] = {
+    {.kind = ZANKEZURT_KIND_TRUE},
+    {.kind = ZANKEZURT_KIND_PROPOSITION},
+    {.kind = ZANKEZURT_KIND_NOT, .first = 1},
+    {.kind = ZANKEZURT_KIND_OR, .first = 1, .second = 2},
+    {.kind = ZANKEZURT_KIND_SINCE, .first = 1, .second = 2, .upper = 2},
+    {.kind = ZANKEZURT_KIND_UNTIL, .first = 1, .second = 2, .upper = 2},
+    {.kind = ZANKEZURT_KIND_AND, .first = 1, .second = 2},
+    {.kind = ZANKEZURT_KIND_IMPLIES, .first = 1, .second = 2},
+    {.kind = ZANKEZURT_KIND_ONCE, .first = 1, .upper = 2},
+    {.kind = ZANKEZURT_KIND_HISTORICALLY, .first = 1, .upper = 2},
+    {.kind = ZANKEZURT_KIND_EVENTUALLY, .first = 1, .upper = 2},
+    {.kind = ZANKEZURT_KIND_ALWAYS, .first = 1, .upper = 2, .rule = 1},
+};
+static const uint8_t kinds_written[] = {
+    0x01, 0x01, 0x04, 0x00, KINDS,
+    0x00,
+    0x01, 0x01,
+    0x03, 0x02, 0x01,
+    0x07, 0x03, 0x01, 0x02,
+    0x17, 0x04, 0x01, 0x02, 0x02, 0x00,
+    0x17, 0x05, 0x01, 0x02, 0x02, 0x00,
+    0x07, 0x06, 0x01, 0x02,
+    0x07, 0x07, 0x01, 0x02,
+    0x13, 0x08, 0x01, 0x02, 0x00,
+    0x13, 0x09, 0x01, 0x02, 0x00,
+    0x13, 0x0A, 0x01, 0x02, 0x00,
+    0x33, 0x0B, 0x01, 0x02, 0x00,
+};
+
+static void write_kinds(void)
+{
+    static ZANKEZURT_STATE(COMPONENTS, MINUTES, KINDS, RULES) of_kinds;
+
+    memcpy(fields, of_each_kind, sizeof of_each_kind);
+    expect("a line of every kind", encode_policy(KINDS, sizeof out), ZANKEZURT_ACCEPTED);
+    expect("its length", detail, sizeof kinds_written);
+    expect_written("its bytes", kinds_written, sizeof kinds_written);
+    expect("a state under it", zankezurt_open(out, sizeof kinds_written, ZANKEZURT_LENT(of_kinds), &detail), ZANKEZURT_ACCEPTED);
+    fields[KINDS - 1].second = 1;
+    expect("an always with a second", encode_policy(KINDS, sizeof out), ZANKEZURT_BAD_SUBFORMULA);
+    fields[KINDS - 1] = (struct zankezurt_line){.kind = KINDS, .rule = 1};
+    expect("a kind that there is not", encode_policy(KINDS, sizeof out), ZANKEZURT_BAD_SUBFORMULA);
 }
 
 static void write_messages(void)
@@ -272,6 +324,7 @@ int main(void)
     swap_policies();
     damage_origins();
     write_policies();
+    write_kinds();
     write_messages();
 
     expect("the archive's version", zankezurt_version(), ZANKEZURT_VERSION);

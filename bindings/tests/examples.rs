@@ -6,9 +6,9 @@ use common::{build_program, text};
 use std::path::Path;
 use std::process::Command;
 
-/// The policy of the small shift, two of its messages, and the verdicts after them.
+/// A policy with the small shift's rule, two of that shift's messages, and the verdicts after them.
 const WRITTEN: &str = "\
-policy 01 01 04 00 03 00 01 01 35 04 01 02 00
+policy 01 01 04 00 02 01 01 31 08 02 00
 message 0C 01 00 01 00 00 00 00
 message 0E 02 00 02 00 01 00 00 00 01
 0 0 broken

@@ -1,13 +1,14 @@
 //! Policies and messages written from their fields: as many lines as a slice has, into buffers that are too short, right and longer.
 
-use zankezurt::{encode_message, encode_policy, Line, Message, Reason, Refusal, MESSAGE_LENGTH, POLICY_LENGTH};
+use zankezurt::{encode_message, encode_policy, kind, Line, Message, Reason, Refusal, MESSAGE_LENGTH, POLICY_LENGTH};
 
 /// Mark 0 at some time in the last 2 minutes.
 const POLICY: [u8; 13] = [0x01, 0x01, 0x04, 0x00, 0x03, 0x00, 0x01, 0x01, 0x35, 0x04, 0x01, 0x02, 0x00];
 
-const TRUE: Line = Line { kind: 0, first: 0, second: 0, lower: 0, upper: 0, rule: 0 };
+const TRUE: Line = Line { kind: kind::TRUE, first: 0, second: 0, lower: 0, upper: 0, rule: 0 };
 const RULE: Line = Line { rule: 1, ..TRUE };
-const LINES: [Line; 3] = [TRUE, Line { kind: 1, ..TRUE }, Line { kind: 4, second: 1, upper: 2, ..RULE }];
+const LINES: [Line; 3] =
+    [TRUE, Line { kind: kind::PROPOSITION, ..TRUE }, Line { kind: kind::SINCE, second: 1, upper: 2, ..RULE }];
 
 /// What every buffer holds before a call.
 const KEPT: u8 = 0x5A;
@@ -56,7 +57,7 @@ fn the_small_shift_is_written_from_its_fields() {
 /// More than 64 are refused for their number, whatever they are.
 #[test]
 fn every_number_of_lines_up_to_64_is_written() {
-    let bad = Line { kind: 6, ..TRUE };
+    let bad = Line { kind: kind::ALWAYS + 1, ..TRUE };
     for count in 0..=200 {
         let mut lines = vec![TRUE; count];
         lines.iter_mut().take(1).for_each(|line| *line = RULE);
@@ -143,8 +144,8 @@ fn the_longest_message_is_as_long_as_its_constant() {
 /// Operands that are 0 are not written, so that the first two lines have less than 8 bytes.
 #[test]
 fn the_longest_policy_is_not_longer_than_its_constant() {
-    let mut lines = [Line { kind: 5, first: 1, second: 1, lower: 1023, upper: 1023, rule: 0 }; 64];
-    lines[0] = Line { kind: 1, first: 31, ..RULE };
-    lines[1] = Line { kind: 4, lower: 1, upper: 1023, ..TRUE };
+    let mut lines = [Line { kind: kind::UNTIL, first: 1, second: 1, lower: 1023, upper: 1023, rule: 0 }; 64];
+    lines[0] = Line { kind: kind::PROPOSITION, first: 31, ..RULE };
+    lines[1] = Line { kind: kind::SINCE, lower: 1, upper: 1023, ..TRUE };
     assert_eq!(encode_policy(32, 16, 1024, &lines, &mut [0; POLICY_LENGTH]), Ok(POLICY_LENGTH - 7));
 }

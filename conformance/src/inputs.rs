@@ -43,22 +43,29 @@ pub fn policy(random: &mut Random, size: Size) -> Policy {
 
 /// Makes one random interval end at the highest bound.
 fn widen(random: &mut Random, policy: &mut Policy) {
-    let temporal = |formula| matches!(formula, Formula::Since(_) | Formula::Until(_));
-    let lines = 0..policy.subformulas.len();
-    let choices: Vec<usize> = lines.filter(|line| temporal(policy.subformulas[*line].formula)).collect();
-    match &mut policy.subformulas[random.pick(&choices)].formula {
-        Formula::Since(parts) | Formula::Until(parts) => parts.upper = HIGHEST_BOUND,
-        _ => unreachable!("only since and until were chosen"),
+    let mut uppers = uppers(policy);
+    let one = random.below(uppers.len());
+    *uppers[one] = HIGHEST_BOUND;
+}
+
+/// The upper ends of the policy's intervals.
+fn uppers(policy: &mut Policy) -> Vec<&mut usize> {
+    fn upper(formula: &mut Formula) -> Option<&mut usize> {
+        match formula {
+            Formula::Since(parts) | Formula::Until(parts) => Some(&mut parts.upper),
+            Formula::Once(span) | Formula::Historically(span) | Formula::Eventually(span) | Formula::Always(span) => {
+                Some(&mut span.upper)
+            }
+            _ => None,
+        }
     }
+    policy.subformulas.iter_mut().filter_map(|line| upper(&mut line.formula)).collect()
 }
 
 /// Whether the policy has all of the largest sizes.
 pub fn is_largest(policy: &Policy) -> bool {
     let sizes = [policy.propositions, policy.components, policy.minutes, policy.subformulas.len()];
-    let bound = policy.subformulas.iter().any(|subformula| match subformula.formula {
-        Formula::Since(parts) | Formula::Until(parts) => parts.upper == HIGHEST_BOUND,
-        _ => false,
-    });
+    let bound = uppers(&mut policy.clone()).iter().any(|upper| **upper == HIGHEST_BOUND);
     sizes == [32, 16, 1024, 64] && policy.rules().len() == 8 && bound
 }
 

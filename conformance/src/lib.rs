@@ -27,6 +27,16 @@ pub fn receive(policy: &[u8], message: &[u8], buffers: &mut Buffers) -> Answer {
     both(&call, buffers, archive, |buffers| oracle::receive(policy, message, buffers), is_refused)
 }
 
+/// The verdicts after an opening and these messages, all of which must be accepted, on both sides.
+pub fn verdicts_after(policy: &[u8], messages: &[&[u8]]) -> Vec<u8> {
+    let mut buffers = Buffers::sized(&oracle::policy::read(policy).unwrap());
+    assert_eq!(open(policy, &mut buffers), Answer::Done);
+    for message in messages {
+        assert!(matches!(receive(policy, message, &mut buffers), Answer::Received(_)), "{message:02X?}");
+    }
+    buffers.verdicts
+}
+
 fn is_refused(answer: &Answer) -> bool {
     matches!(answer, Answer::Refused(_))
 }

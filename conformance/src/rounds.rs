@@ -1,6 +1,8 @@
 //! How long the random tests run, on all cores, and what they have seen.
 
 use oracle::generate::Random;
+use oracle::policy::Policy;
+use oracle::write::Line;
 use oracle::{Answer, Look, PacketAnswer, Refusal};
 use std::collections::BTreeMap;
 use std::sync::atomic::{AtomicUsize, Ordering};
@@ -58,6 +60,18 @@ impl Seen {
             Ok(_) => self.one(&format!("{what} written")),
             Err(refusal) => self.one(&format!("{what} refused {}", refusal.number)),
         }
+    }
+
+    /// The kinds of the policy's lines.
+    pub fn kinds(&mut self, policy: &Policy) {
+        for subformula in &policy.subformulas {
+            self.one(&format!("kind {}", Line::from(subformula).kind));
+        }
+    }
+
+    /// Each of the twelve kinds.
+    pub fn every_kind_at_least(&self, times: usize) {
+        (0..12).for_each(|kind| self.at_least(times, &format!("kind {kind}")));
     }
 
     /// The verdicts that stand on a sheet.

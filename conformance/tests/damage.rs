@@ -231,6 +231,56 @@ fn every_byte_of_the_largest_policies() {
     seen.at_least(10, "still a policy");
 }
 
+/// Two propositions, one component, five minutes and lines of all twelve kinds, most of them with all of their fields.
+const EVERY_KIND: &[&[u8]] = &[
+    &[2, 1, 5, 0, 13],
+    &[0x01, 1],                   // 0: proposition 0
+    &[0x03, 1, 1],                // 1: proposition 1
+    &[0x20],                      // 2: true, a rule
+    &[0x03, 2, 1],                // 3: not 1
+    &[0x27, 3, 3, 1],             // 4: 3 or 1, a rule
+    &[0x1F, 4, 2, 3, 1, 0, 2, 0], // 5: 2 since 3
+    &[0x1F, 5, 4, 1, 1, 0, 3, 0], // 6: 4 until 1
+    &[0x27, 6, 5, 3],             // 7: 5 and 3, a rule
+    &[0x27, 7, 5, 6],             // 8: 5 implies 6, a rule
+    &[0x3B, 8, 3, 1, 0, 2, 0],    // 9: once 3, a rule
+    &[0x3B, 9, 1, 1, 0, 3, 0],    // 10: historically 1, a rule
+    &[0x3B, 10, 9, 1, 0, 1, 0],   // 11: eventually 9, a rule
+    &[0x33, 11, 4, 2, 0],         // 12: always 4, a rule
+];
+
+/// Every byte of a policy with every kind replaced by every other one. Where it is still a policy, what is opened and
+/// what is read after a message is compared too.
+#[test]
+fn every_other_byte_of_a_policy_with_every_kind() {
+    let bytes = EVERY_KIND.concat();
+    let sizes = Buffers::sized(&policy::read(&bytes).unwrap());
+    // At minute 1, the second observation, with both propositions.
+    let message = [0x0E, 1, 0, 2, 0, 3, 0, 0, 0, 1];
+    let seen = rounds::run(3_850_000, bytes.len(), |place, random, seen| {
+        let place = place % bytes.len();
+        for byte in 0..=255 {
+            let mut other = bytes.clone();
+            other[place] = byte;
+            let mut buffers = sizes.clone();
+            inputs::fill_sheets(random, &mut buffers);
+            let answer = open(&other, &mut buffers);
+            seen.answer("open", answer);
+            seen.look(lookup(&other, &buffers.verdicts, 6, 4));
+            seen.answer("receive", receive(&other, &message, &mut buffers));
+            if answer == Answer::Done {
+                seen.kinds(&policy::read(&other).unwrap());
+            }
+        }
+    });
+    for number in 1..=5 {
+        seen.at_least(1, &format!("open refused {number}"));
+    }
+    seen.at_least(500, "open done");
+    seen.at_least(500, "receive accepted");
+    seen.every_kind_at_least(500);
+}
+
 /// Offers the bytes to all four calls; only to lookup where they are still a policy, which takes the oracle long to read.
 fn refused_policy(random: &mut Random, bytes: &[u8], buffers: &Buffers, seen: &mut Seen) {
     let look = lookup(bytes, &buffers.verdicts, random.below(8), random.below(1024));

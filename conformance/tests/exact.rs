@@ -4,12 +4,12 @@
 //! messages.
 
 use conformance::rounds::{self, Seen};
-use conformance::{inputs, open, receive};
+use conformance::{inputs, open, receive, verdicts_after};
 use oracle::brute::every_trace;
 use oracle::generate::{self, Random};
 use oracle::knowledge::{known_busy, known_quiet, sound, NOT_KNOWN};
 use oracle::message::{self, Event, Message};
-use oracle::policy::{self, Formula, Policy, Subformula, Temporal};
+use oracle::policy::{Formula, Policy, Subformula, Temporal};
 use oracle::refusal::CONFLICT;
 use oracle::trace::Trace;
 use oracle::truth::Truth;
@@ -266,26 +266,16 @@ fn random_lists_of_messages() {
     TOLD.iter().for_each(|what| seen.at_least(500, what));
 }
 
-/// The verdicts after these messages, all of which must be accepted.
-fn after(bytes: &[u8], messages: &[&[u8]]) -> Vec<u8> {
-    let mut buffers = Buffers::sized(&policy::read(bytes).unwrap());
-    assert_eq!(open(bytes, &mut buffers), Answer::Done);
-    for message in messages {
-        assert!(matches!(receive(bytes, message, &mut buffers), Answer::Received(_)), "{message:02X?}");
-    }
-    buffers.verdicts
-}
-
 /// "A mixer lost two slips at minutes 0 and 1, then reported count 3 at minute 2", or was alive at minute 3 with count
 /// 3. One mark, one station, three minutes, and the rule is true.
 #[test]
 fn the_mixer_that_lost_two_slips() {
     let policy = [0x01, 0x01, 0x03, 0x00, 0x01, 0x20];
-    assert_eq!(after(&policy, &[&[0x06, 0x02, 0x00, 0x03, 0x00]]), [1, 1, 1]);
-    assert_eq!(after(&policy, &[&[0x16, 0x03, 0x00, 0x03, 0x00]]), [1, 1, 1]);
+    assert_eq!(verdicts_after(&policy, &[&[0x06, 0x02, 0x00, 0x03, 0x00]]), [1, 1, 1]);
+    assert_eq!(verdicts_after(&policy, &[&[0x16, 0x03, 0x00, 0x03, 0x00]]), [1, 1, 1]);
     // With one observation less it is not told which minute had none.
-    assert_eq!(after(&policy, &[&[0x16, 0x03, 0x00, 0x02, 0x00]]), [0, 0, 0]);
-    assert_eq!(after(&policy, &[&[0x06, 0x02, 0x00, 0x02, 0x00]]), [0, 0, 1]);
+    assert_eq!(verdicts_after(&policy, &[&[0x16, 0x03, 0x00, 0x02, 0x00]]), [0, 0, 0]);
+    assert_eq!(verdicts_after(&policy, &[&[0x06, 0x02, 0x00, 0x02, 0x00]]), [0, 0, 1]);
     // Minute 0 had none, so that the two others had one each.
-    assert_eq!(after(&policy, &[&[0x16, 0x03, 0x00, 0x02, 0x00], &[0x12, 0x01, 0x00]]), [0, 1, 1]);
+    assert_eq!(verdicts_after(&policy, &[&[0x16, 0x03, 0x00, 0x02, 0x00], &[0x12, 0x01, 0x00]]), [0, 1, 1]);
 }

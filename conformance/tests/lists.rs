@@ -27,12 +27,14 @@ fn archive_and_oracle_agree_after_every_take() {
             let policy = inputs::policy(random, size);
             let offers = inputs::offers(random, &policy, most);
             seen.one(&format!("{size:?} lists"));
+            seen.kinds(&policy);
             list(random, &policy, &offers, seen);
         }
     });
     seen.at_least(20_000, "lists");
     seen.at_least(12, "largest lists");
     seen.at_least(500, "empty offers");
+    seen.every_kind_at_least(5_000);
     for (what, times) in [("accepted", 50_000), ("refused 7", 5_000), ("refused 8", 5_000), ("refused 9", 5_000)] {
         seen.at_least(times, &format!("receive {what}"));
     }

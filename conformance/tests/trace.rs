@@ -6,7 +6,7 @@ use std::collections::BTreeSet;
 use std::fs;
 
 /// Folders whose paths are cited as they stand.
-const AS_THEY_STAND: [&str; 6] = ["bindings", "conformance", "crates", "demo", "docs", "oracle"];
+const AS_THEY_STAND: [&str; 7] = ["bench", "bindings", "conformance", "crates", "demo", "docs", "oracle"];
 
 /// A file of the repository that is cited, with the names or the label that are to stand in it.
 struct Citation {

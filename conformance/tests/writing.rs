@@ -4,7 +4,7 @@
 use conformance::inputs::{self, Size};
 use conformance::process::root;
 use conformance::rounds::{self, Seen};
-use conformance::{archive, encode_message, encode_policy};
+use conformance::{archive, encode_message, encode_policy, open};
 use oracle::generate::{self, Random};
 use oracle::message::{self, Message};
 use oracle::policy::{self, Policy};
@@ -156,10 +156,10 @@ fn bad_lines(good: Line, number: u16, propositions: u16) -> Vec<Line> {
         }
     };
     let end = if good.kind == 1 { propositions } else { number };
-    let bounded = good.kind >= 4;
-    let kinds = [6, 7, 255, good.kind + 256, 65535];
+    let bounded = [4, 5, 8, 9, 10, 11].contains(&good.kind);
+    let kinds = [12, 13, 255, good.kind + 256, 65535];
     let firsts = operand(good.kind >= 1, good.first, end);
-    let seconds = operand(good.kind >= 3, good.second, end);
+    let seconds = operand((3..=7).contains(&good.kind), good.second, end);
     let lowers = if bounded { vec![good.upper + 1, 65535] } else { any.clone() };
     let mut uppers = if bounded { vec![HIGHEST_BOUND as u16 + 1, good.upper + 1024, 65535] } else { any.clone() };
     uppers.extend(good.lower.checked_sub(1).filter(|_| bounded));
@@ -188,6 +188,7 @@ fn bad_rules(good: &PolicyFields) -> Vec<PolicyFields> {
 fn each_field_of_a_policy_out_of_range_in_turn() {
     let seen = run(7_200_000, 1, |random, policy, seen| {
         let good = PolicyFields::from(policy);
+        seen.kinds(policy);
         let mut refuse = |fields: &PolicyFields, number: u8| {
             for length in [0, MOST_BYTES] {
                 let answer = encode_policy(fields, &mut filled(random, length));
@@ -208,6 +209,34 @@ fn each_field_of_a_policy_out_of_range_in_turn() {
     for (number, times) in [(BAD_HEADING, 2_000), (BAD_SUBFORMULA, 10_000), (RULE_COUNT, 300)] {
         seen.at_least(times, &format!("policy refused {number}"));
     }
+    seen.every_kind_at_least(20);
+}
+
+/// Each kind with every choice of fields that are 1, the others 0, after two lines. What is written is opened.
+#[test]
+fn each_kind_with_every_choice_of_fields() {
+    let mut seen = Seen::default();
+    for kind in 0..=300 {
+        for choice in 0..16 {
+            let [first, second, lower, upper] = [0, 1, 2, 3].map(|field| choice >> field & 1);
+            let line = Line { kind, first, second, lower, upper, rule: false };
+            let fields = with_lines(&[TRUE, RULE, line]);
+            let mut out = [0x5A; 20];
+            let answer = encode_policy(&fields, &mut out);
+            seen.writing("policy", answer);
+            if let Ok(length) = answer {
+                seen.one(&format!("kind {kind}"));
+                let policy = policy::read(&out[..length]).unwrap();
+                assert_eq!(PolicyFields::from(&policy), fields);
+                assert_eq!(open(&out[..length], &mut Buffers::sized(&policy)), Answer::Done);
+            }
+        }
+    }
+    println!("{seen:?}");
+    for (kind, times) in [1, 2, 2, 4, 12, 12, 4, 4, 6, 6, 6, 6].into_iter().enumerate() {
+        seen.at_least(times, &format!("kind {kind}"));
+    }
+    seen.at_least(301 * 16 - 65, "policy refused 3");
 }
 
 /// The message's fields with one of them out of range.
@@ -290,7 +319,7 @@ fn fields_of_any_numbers() {
 
 const TRUE: Line = Line { kind: 0, first: 0, second: 0, lower: 0, upper: 0, rule: false };
 const RULE: Line = Line { rule: true, ..TRUE };
-const BAD: Line = Line { kind: 6, ..TRUE };
+const BAD: Line = Line { kind: 12, ..TRUE };
 
 /// Two propositions, two components, three minutes and these lines.
 fn with_lines(lines: &[Line]) -> PolicyFields {
@@ -343,7 +372,7 @@ fn a_message_is_refused_for_its_policy_then_its_fields_then_the_buffer() {
     assert_eq!(write(&policy[..7]), refused_at(TRUNCATED_POLICY, 7));
     assert_eq!(write(&[&policy[..], &[0; 2]].concat()), refused_at(TRUNCATED_POLICY, 8));
     assert_eq!(write(&[2, 2, 1, 4, 2, 0x40]), refused_at(BAD_HEADING, 2));
-    assert_eq!(write(&[2, 2, 3, 0, 2, 0x20, 0x01, 6]), refused_at(BAD_SUBFORMULA, 6));
+    assert_eq!(write(&[2, 2, 3, 0, 2, 0x20, 0x01, 12]), refused_at(BAD_SUBFORMULA, 6));
     assert_eq!(write(&[2, 2, 3, 0, 2, 0x00, 0x01, 1]), refused_at(RULE_COUNT, 0));
     assert_eq!(write(&policy), refused(BAD_MESSAGE));
     let good = MessageFields { number: 1, ..MessageFields::default() };
@@ -475,7 +504,7 @@ fn lines_past_the_count_are_not_looked_at() {
         seen.add("fewer than 64", usize::from(count < MOST_SUBFORMULAS));
         let mut out = before.clone();
         if count < MOST_SUBFORMULAS {
-            lines[count].kind |= 8;
+            lines[count].kind |= 16;
             assert_eq!(encode_counted(&fields, count + 1, &lines, &mut out), refused(BAD_SUBFORMULA), "{lines:?}");
         }
         for many in [0, 65, count + 256, count + 65536, count + (1 << 32), usize::MAX] {

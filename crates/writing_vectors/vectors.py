@@ -1,15 +1,17 @@
 #!/usr/bin/env python3
-"""Writes the vectors to `stdin`, and to `stdout` what writers made from 01's sections "The card" and "The slip" and 02's request 3 alone,
-apart from the crates, answer to them."""
+"""Writes the vectors to `stdin`, and to `stdout` what writers made from 01's sections "The card" and "The slip" and 02's requests 3 and 6
+alone, apart from the crates, answer to them."""
 import os
 import random
 from collections import namedtuple
 
 Line = namedtuple('Line', 'kind first second lower upper rule', defaults=[0] * 6)
 Slip = namedtuple('Slip', 'station alive minute count named values', defaults=[0] * 6)
+# request 6: 6 and, 7 implies, "first, second"; 8 once, 9 historically, 10 eventually, 11 always, "first, lower, upper"
 ALLOWED = {0: (), 1: ('first',), 2: ('first',), 3: ('first', 'second'), 4: ('first', 'second', 'lower', 'upper'),
-           5: ('first', 'second', 'lower', 'upper')}
-OPERANDS = {0: (), 1: (), 2: ('first',), 3: ('first', 'second'), 4: ('first', 'second'), 5: ('first', 'second')}
+           5: ('first', 'second', 'lower', 'upper'), 6: ('first', 'second'), 7: ('first', 'second'),
+           **{kind: ('first', 'lower', 'upper') for kind in [8, 9, 10, 11]}}
+OPERANDS = {kind: () if kind < 2 else tuple(name for name in names if name in ('first', 'second')) for kind, names in ALLOWED.items()}
 lines = []
 
 
@@ -171,6 +173,11 @@ def small_shift():
 
 EVERY = [Line(), Line(1, 2), Line(2, 1), Line(3, 2, 1), Line(4, 1, 3, 1, 1023, 1), Line(5, 4, 2, 258, 772, 1), Line(0, rule=1),
          Line(1, 0, rule=1), Line(2, 0, rule=1), Line(3, 0, 0, rule=1), Line(4, rule=1), Line(5, 0, 0, 0, 256, 1)]
+# a line of each kind, those of request 6 among them, and the card's bytes, a group for the heading and for each line
+TWELVE = [Line(), Line(1, 1), Line(2, 1), Line(3, 1, 2), Line(4, 1, 2, 1, 258, 1), Line(5, 3, 4, 256, 1023), Line(6, 1, 2), Line(7, 2, 1),
+          Line(8, 3, 0, 0, 258), Line(9, 4, 0, 1, 1023), Line(10, 5, 0, 256, 256), Line(11, 10, 0, 2, 3)]
+TWELVE_TEXT = bytes.fromhex('02 03 02 01 0C  00  03 01 01  03 02 01  07 03 01 02  3F 04 01 02 01 00 02 01  1F 05 03 04 00 01 FF 03'
+                            '07 06 01 02  07 07 02 01  13 08 03 02 01  1B 09 04 01 00 FF 03  1B 0A 05 00 01 00 01  1B 0B 0A 02 00 03 00')
 
 
 def good_cards():
@@ -178,6 +185,9 @@ def good_cards():
     size = len(write_card(3, 2, 300, len(EVERY), EVERY))
     for room in [0, size - 1, size, size + 1]:
         card_vector(room, 3, 2, 300, EVERY)
+    about('twelve kinds')
+    assert write_card(2, 3, 258, 12, TWELVE) == TWELVE_TEXT
+    card_vector(66, 2, 3, 258, TWELVE)
     about('a since and an until with each choice of fields that are not 0')
     for kind in [4, 5]:
         chosen = [Line(), Line()] + [Line(kind, first, second, lower, upper) for first in [0, 1] for second in [0, 1]
@@ -223,7 +233,7 @@ def headings():
 
 # a line that would stand as line 2 of a card with 2 marks, and breaks one rule
 BROKEN = [
-    ('an unknown kind', [Line(6), Line(255), Line(256), Line(260, 0, 1, 1, 2), Line(65535)]),
+    ('an unknown kind', [Line(12), Line(255), Line(256), Line(260, 0, 1, 1, 2), Line(65535)]),
     ('true with a field', [Line(0, 1), Line(0, 0, 1), Line(0, 0, 0, 1, 1), Line(0, 0, 0, 0, 1)]),
     ('a mark with a field', [Line(1, 1, 1), Line(1, 0, 0, 1, 1), Line(1, 0, 0, 0, 1)]),
     ('not with a field', [Line(2, 1, 1), Line(2, 1, 0, 1, 1), Line(2, 1, 0, 0, 1)]),
@@ -235,6 +245,14 @@ BROKEN = [
     ('upper above 1,023', [Line(4, 1, 1, 0, 1024), Line(5, 1, 1, 1024, 1024), Line(5, 0, 0, 65535, 65535)]),
 ]
 
+# the same of the kinds of request 6, as the line after so many
+NEWER_BROKEN = [
+    ('and or implies with a field', 1, [Line(6, 0, 0, 1, 1), Line(7, 0, 0, 0, 1)]),
+    ('once, historically, eventually or always with a second', 2, [Line(8, 0, 1), Line(9, 1, 1, 0, 1), Line(10, 1, 1), Line(11, 1, 1, 1, 1)]),
+    ('an operand of and, implies, once or always that is no earlier line', 1, [Line(6, 1), Line(7, 0, 1), Line(8, 1), Line(11, 256)]),
+    ('historically with lower above upper, always with upper above 1,023', 1, [Line(9, 0, 0, 2, 1), Line(11, 0, 0, 0, 1024)]),
+]
+
 
 def broken_lines():
     for words, broken in BROKEN:
@@ -244,9 +262,13 @@ def broken_lines():
         card_vector(22, 2, 1, 4, [Line(), Line(1), broken[0]])
         card_vector(22, 0, 1, 4, [Line(), Line(1), broken[0]._replace(rule=1)])
         card_vector(0, 2, 1, 4, [Line(), Line(1), broken[0]._replace(rule=1)])
+    for words, before, broken in NEWER_BROKEN:
+        about(words)
+        for line in broken:
+            card_vector(22, 1, 1, 4, [Line()] * before + [line._replace(rule=1)])
     about('a bad line beside 9 rules; before the last; first')
-    card_vector(22, 1, 1, 4, [Line(rule=1)] * 9 + [Line(6)])
-    card_vector(22, 1, 1, 4, [Line(), Line(6), Line(rule=1)])
+    card_vector(22, 1, 1, 4, [Line(rule=1)] * 9 + [Line(12)])
+    card_vector(22, 1, 1, 4, [Line(), Line(12), Line(rule=1)])
     for line in [Line(1, 1, rule=1), Line(2, rule=1), Line(3, rule=1), Line(4, rule=1), Line(5, rule=1)]:
         card_vector(22, 1, 1, 4, [line])
 
@@ -255,7 +277,7 @@ def cards_of_slips():
     about('a card that is refused: cut, a byte more, bad headings, bad lines, no rule, 9 rules')
     refused = [K[:n] for n in range(len(K))] + [K + b'\x00', K + K]
     refused += [K[:at] + bytes([byte]) + K[at + 1:] for at, byte in
-                [(0, 0), (0, 33), (1, 0), (1, 17), (2, 0), (3, 5), (4, 0), (4, 65), (5, 64), (6, 129), (7, 0), (7, 6), (8, 117), (8, 21),
+                [(0, 0), (0, 33), (1, 0), (1, 17), (2, 0), (3, 5), (4, 0), (4, 65), (5, 64), (6, 129), (7, 0), (7, 12), (8, 117), (8, 21),
                  (8, 61), (9, 3), (10, 2), (11, 0), (12, 4)]]
     refused += [bytes([0, 1, 4, 0, 1]), bytes([1, 1, 1, 4, 1, 32])]
     refused += [bytes([1, 1, 4, 0, 9] + [32] * 9), bytes([1, 1, 4, 0, 1, 0]), bytes([1, 1, 4, 0, 1, 0, 0])]
@@ -264,6 +286,8 @@ def cards_of_slips():
     about('a card with every kind and field and 8 rules, and one of 64 lines')
     slip_vector(10, write_card(3, 2, 300, len(EVERY), EVERY), Slip(1, 0, 299, 1, 4, 4))
     slip_vector(10, write_card(1, 1, 4, 64, [Line(rule=1)]), Slip(0, 0, 3, 1))
+    about('a card of twelve kinds')
+    slip_vector(10, TWELVE_TEXT, Slip(2, 0, 257, 1, 2, 2))
     about('such a card, a slip that is bad, and no room; then a good card; then good both')
     for card in [b'', K[:12], K + b'\x00', b'\x00' + K[1:], K[:8] + b'\x75' + K[9:], K[:8] + b'\x15' + K[9:], K]:
         slip_vector(0, card, Slip(1, 0, 9, 0, 2, 1))
@@ -321,15 +345,16 @@ def named_marks():
 
 def some_line(rng, marks, i):
     """A random line that keeps the rules of its kind."""
-    kind = rng.choice([0, 1] if i == 0 else [0, 1, 2, 3, 4, 5, 4, 5])
+    kind = rng.choice([0, 1] if i == 0 else range(12))
     first = {0: 0, 1: rng.randrange(marks)}.get(kind, rng.randrange(i or 1))
-    second = rng.randrange(i or 1) if kind > 2 else 0
-    lower, upper = sorted(rng.choice([0, 1, 2, 255, 256, 1023, rng.randrange(1024)]) for _ in range(2)) if kind > 3 else (0, 0)
+    second = rng.randrange(i or 1) if 'second' in ALLOWED[kind] else 0
+    lower, upper = (sorted(rng.choice([0, 1, 2, 255, 256, 1023, rng.randrange(1024)]) for _ in range(2)) if 'upper' in ALLOWED[kind]
+                    else (0, 0))
     return Line(kind, first, second, lower, upper, int(rng.random() < 0.5))
 
 
 def some_number(rng):
-    return rng.choice([0, 1, 2, 6, 255, 256, 1023, 1024, 65535, rng.randrange(65536)])
+    return rng.choice([0, 1, 2, 12, 255, 256, 1023, 1024, 65535, rng.randrange(65536)])
 
 
 def at_random():

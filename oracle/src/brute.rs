@@ -7,7 +7,7 @@ use crate::generate::encode_policy;
 use crate::knowledge::{known_busy, known_quiet, sound, Buffers};
 use crate::message;
 use crate::monitor::{open, receive, Answer};
-use crate::policy::{Formula, Policy, Temporal};
+use crate::policy::{Formula, Policy, Span, Temporal};
 use crate::reading::{standing, two_valued_verdicts};
 use crate::refusal::{Refusal, CONFLICT, CORRUPT_KNOWLEDGE, OTHER_POLICY};
 use crate::trace::Trace;
@@ -164,8 +164,18 @@ pub fn every_trace(policy: &Policy, length: usize) -> Vec<Trace> {
 /// The verdicts by 001, section 2: a trace is the list of its time points, and since and until speak of those alone. At
 /// time point i, first since second if there is a j ≤ i whose distance in minutes is in the interval, with second at j
 /// and first at all k with j < k ≤ i; until likewise, with j ≥ i and i ≤ k < j.
+///
+/// Once: first at some j ≤ i whose distance is in the interval; historically: at all of them; eventually and always
+/// likewise, with j ≥ i. These are read as they stand here and not by their abbreviations.
 pub fn textbook_verdicts(policy: &Policy, trace: &Trace) -> Vec<u8> {
     let points: Vec<usize> = (0..trace.length()).filter(|minute| trace.time_point(*minute as i64)).collect();
+    // The time points at and before i, or at and after it, that are from lower to upper minutes away.
+    let behind = |i: usize, Span { lower, upper, .. }: Span| {
+        (0..=i).filter(|j| (lower..=upper).contains(&(points[i] - points[*j]))).collect::<Vec<usize>>()
+    };
+    let ahead = |i: usize, Span { lower, upper, .. }: Span| {
+        (i..points.len()).filter(|j| (lower..=upper).contains(&(points[*j] - points[i]))).collect::<Vec<usize>>()
+    };
     let mut rows: Vec<Vec<bool>> = Vec::new();
     for subformula in &policy.subformulas {
         let value = |i: usize| match subformula.formula {
@@ -181,6 +191,13 @@ pub fn textbook_verdicts(policy: &Policy, trace: &Trace) -> Vec<u8> {
                 let distance = points[j] - points[i];
                 lower <= distance && distance <= upper && rows[second][j] && (i..j).all(|k| rows[first][k])
             }),
+            Formula::And(first, second) => rows[first][i] && rows[second][i],
+            Formula::Implies(first, second) if rows[first][i] => rows[second][i],
+            Formula::Implies(_, _) => true,
+            Formula::Once(span) => behind(i, span).into_iter().any(|j| rows[span.first][j]),
+            Formula::Historically(span) => behind(i, span).into_iter().all(|j| rows[span.first][j]),
+            Formula::Eventually(span) => ahead(i, span).into_iter().any(|j| rows[span.first][j]),
+            Formula::Always(span) => ahead(i, span).into_iter().all(|j| rows[span.first][j]),
         };
         let row = (0..points.len()).map(value).collect();
         rows.push(row);

@@ -109,7 +109,7 @@ pub fn policy_of(random: &mut Random, sizes: &Limits, rules: usize) -> Policy {
     Policy { propositions: sizes.propositions, components: sizes.components, minutes: sizes.minutes, subformulas }
 }
 
-/// A formula for the subformula with this number.
+/// A formula for the subformula with this number, of any of the twelve kinds; since and until more often.
 fn formula(random: &mut Random, number: usize, sizes: &Limits) -> Formula {
     let leaves = sizes.propositions.min(1 + sizes.subformulas / 3);
     if number < leaves || random.once_in(8) {
@@ -119,11 +119,18 @@ fn formula(random: &mut Random, number: usize, sizes: &Limits) -> Formula {
     let second = operand(random, number);
     let (lower, upper) = interval(random, sizes.bound);
     let parts = Temporal { first, second, lower, upper };
-    match random.below(6) {
+    let span = Span { first, lower, upper };
+    match random.below(12) {
         0 => Formula::Not(first),
         1 => Formula::Or(first, second),
         2 | 3 => Formula::Since(parts),
-        _ => Formula::Until(parts),
+        4 | 5 => Formula::Until(parts),
+        6 => Formula::And(first, second),
+        7 => Formula::Implies(first, second),
+        8 => Formula::Once(span),
+        9 => Formula::Historically(span),
+        10 => Formula::Eventually(span),
+        _ => Formula::Always(span),
     }
 }
 
@@ -375,7 +382,7 @@ fn stray_heading(random: &mut Random, raw: &mut RawPolicy) {
 fn stray_field(random: &mut Random, line: &mut Encoding, number: usize) {
     let field = random.below(line.fields.len());
     line.fields[field].0 = match field {
-        KIND => random.pick(&[0, 1, 2, 3, 4, 5, 6, 7, 255]),
+        KIND => random.pick(&[0, 1, 2, 3, 4, 5, 6, 7, 8, 9, 10, 11, 12, 13, 255]),
         LOWER | UPPER => random.pick(&[0, 1, 2, HIGHEST_BOUND, HIGHEST_BOUND + 1, 65535]),
         _ => random.pick(&[0, number.saturating_sub(1), number, number + 1, 31, 32, 255]),
     };
@@ -433,14 +440,14 @@ fn stray_line(random: &mut Random, lines: &mut [Line]) {
     let number = random.below(lines.len());
     let near = (number as u16).saturating_sub(1);
     let Line { kind, first, second, lower, upper, .. } = &mut lines[number];
-    let (field, ends) = match random.below(5) {
-        0 => (kind, [0, 1, 2, 3, 4, 5, 6, 255]),
-        1 => (first, [0, near, near + 1, near + 2, 31, 32, 255, 256]),
-        2 => (second, [0, near, near + 1, near + 2, 31, 32, 255, 256]),
-        3 => (lower, [0, 0, 1, 2, 255, 256, 1023, 1024]),
-        _ => (upper, [0, 1, 2, 1022, 1023, 1023, 1024, 65535]),
+    let (field, ends): (_, &[u16]) = match random.below(5) {
+        0 => (kind, &[0, 1, 2, 3, 4, 5, 6, 7, 8, 9, 10, 11, 12, 255]),
+        1 => (first, &[0, near, near + 1, near + 2, 31, 32, 255, 256]),
+        2 => (second, &[0, near, near + 1, near + 2, 31, 32, 255, 256]),
+        3 => (lower, &[0, 0, 1, 2, 255, 256, 1023, 1024]),
+        _ => (upper, &[0, 1, 2, 1022, 1023, 1023, 1024, 65535]),
     };
-    *field = if random.once_in(6) { field.wrapping_add(256) } else { random.pick(&ends) };
+    *field = if random.once_in(6) { field.wrapping_add(256) } else { random.pick(ends) };
 }
 
 fn stray_rule_fields(random: &mut Random, lines: &mut [Line]) {

@@ -10,18 +10,21 @@
 //! | `encoding` | what the formats of policy and message share |
 //! | `policy`, `message` | the two readers |
 //! | `write` | the two writers |
+//! | `abbreviation` | every kind by the six of document 01 |
 //! | `trace` | one run of the components, and what it could have sent |
 //! | `knowledge` | the state: sizes, origin, soundness, what a message fixes, conflicts, known time points, searches |
 //! | `reading` | the three-valued and the two-valued reading, and the verdicts |
 //! | `monitor` | the calls: open, receive, receive_packet, lookup |
 //! | `program` | the printing program |
 //! | `brute` | every trace of a tiny policy, and what must hold over all of them |
+//! | `written_out` | policies in which lines of the newer kinds are written out |
 //! | `generate` | random policies, messages, traces, fields, damage, swapped policies and program inputs |
 //!
 //! A harness that links the monitor calls both with the same bytes and compares [`Answer`] or [`PacketAnswer`], and
 //! [`Buffers`], after every call; of a writer the length or refusal, and the lent buffer.
 #![forbid(unsafe_code)]
 
+pub mod abbreviation;
 pub mod brute;
 pub mod encoding;
 pub mod generate;
@@ -35,6 +38,7 @@ pub mod refusal;
 pub mod trace;
 pub mod truth;
 pub mod write;
+pub mod written_out;
 
 pub use knowledge::Buffers;
 pub use monitor::{lookup, open, receive, receive_packet, Answer, Look, PacketAnswer};

@@ -44,7 +44,7 @@ pub struct Subformula {
     pub rule: bool,
 }
 
-/// The six kinds. Operands are numbers of earlier subformulas.
+/// The six kinds of document 01 and the six of document 02's request 6. Operands are numbers of earlier subformulas.
 #[derive(Clone, Copy, Debug, PartialEq, Eq)]
 pub enum Formula {
     True,
@@ -53,6 +53,12 @@ pub enum Formula {
     Or(usize, usize),
     Since(Temporal),
     Until(Temporal),
+    And(usize, usize),
+    Implies(usize, usize),
+    Once(Span),
+    Historically(Span),
+    Eventually(Span),
+    Always(Span),
 }
 
 /// What since and until are made of: first since (or until) second, from lower to upper minutes away.
@@ -60,6 +66,14 @@ pub enum Formula {
 pub struct Temporal {
     pub first: usize,
     pub second: usize,
+    pub lower: usize,
+    pub upper: usize,
+}
+
+/// What once, historically, eventually and always are made of: one operand, from lower to upper minutes away.
+#[derive(Clone, Copy, Debug, PartialEq, Eq)]
+pub struct Span {
+    pub first: usize,
     pub lower: usize,
     pub upper: usize,
 }
@@ -123,32 +137,53 @@ fn subformula(fields: &Fields, number: usize, propositions: usize) -> Option<Sub
         return None;
     }
     let formula = formula(fields)?;
-    let allowed = match formula {
-        Formula::True => 0,
-        Formula::Proposition(_) | Formula::Not(_) => 1,
-        Formula::Or(_, _) => 2,
-        Formula::Since(_) | Formula::Until(_) => 4,
-    };
-    if (FIRST + allowed..=UPPER).any(|field| fields.is_written(field)) {
+    let allowed = allowed(formula);
+    if (FIRST..=UPPER).any(|field| fields.is_written(field) && !allowed.contains(&field)) {
         return None;
     }
-    let in_range = match formula {
+    is_in_range(formula, number, propositions).then_some(Subformula { formula, rule: fields.bit(RULE_BIT) })
+}
+
+/// "Fields allowed besides kind"; and of the six newer kinds: "Six and seven take first and second; the rest take
+/// first, lower, upper".
+fn allowed(formula: Formula) -> &'static [usize] {
+    match formula {
+        Formula::True => &[],
+        Formula::Proposition(_) | Formula::Not(_) => &[FIRST],
+        Formula::Or(_, _) | Formula::And(_, _) | Formula::Implies(_, _) => &[FIRST, SECOND],
+        Formula::Since(_) | Formula::Until(_) => &[FIRST, SECOND, LOWER, UPPER],
+        Formula::Once(_) | Formula::Historically(_) | Formula::Eventually(_) | Formula::Always(_) => {
+            &[FIRST, LOWER, UPPER]
+        }
+    }
+}
+
+/// Whether the proposition is the policy's, "operands are earlier lines", and "lower ≤ upper ≤ 1,023".
+fn is_in_range(formula: Formula, number: usize, propositions: usize) -> bool {
+    let interval = |lower: usize, upper: usize| lower <= upper && upper <= HIGHEST_BOUND;
+    match formula {
         Formula::True => true,
         Formula::Proposition(proposition) => proposition < propositions,
         Formula::Not(first) => first < number,
-        Formula::Or(first, second) => first < number && second < number,
-        Formula::Since(parts) | Formula::Until(parts) => {
-            parts.first < number && parts.second < number && parts.lower <= parts.upper && parts.upper <= HIGHEST_BOUND
+        Formula::Or(first, second) | Formula::And(first, second) | Formula::Implies(first, second) => {
+            first < number && second < number
         }
-    };
-    in_range.then_some(Subformula { formula, rule: fields.bit(RULE_BIT) })
+        Formula::Since(parts) | Formula::Until(parts) => {
+            parts.first < number && parts.second < number && interval(parts.lower, parts.upper)
+        }
+        Formula::Once(span) | Formula::Historically(span) | Formula::Eventually(span) | Formula::Always(span) => {
+            span.first < number && interval(span.lower, span.upper)
+        }
+    }
 }
 
 /// The formula by its kind, its fields not yet checked; None if there is no such kind.
 fn formula(fields: &Fields) -> Option<Formula> {
     let first = fields.value(FIRST);
     let second = fields.value(SECOND);
-    let parts = Temporal { first, second, lower: fields.value(LOWER), upper: fields.value(UPPER) };
+    let (lower, upper) = (fields.value(LOWER), fields.value(UPPER));
+    let parts = Temporal { first, second, lower, upper };
+    let span = Span { first, lower, upper };
     match fields.value(KIND) {
         0 => Some(Formula::True),
         1 => Some(Formula::Proposition(first)),
@@ -156,6 +191,12 @@ fn formula(fields: &Fields) -> Option<Formula> {
         3 => Some(Formula::Or(first, second)),
         4 => Some(Formula::Since(parts)),
         5 => Some(Formula::Until(parts)),
+        6 => Some(Formula::And(first, second)),
+        7 => Some(Formula::Implies(first, second)),
+        8 => Some(Formula::Once(span)),
+        9 => Some(Formula::Historically(span)),
+        10 => Some(Formula::Eventually(span)),
+        11 => Some(Formula::Always(span)),
         _ => None,
     }
 }

@@ -93,8 +93,14 @@ pub fn message_text(policy: &Policy, fields: &MessageFields) -> Result<Vec<u8>, 
     Ok([text, packed(named, values)].concat())
 }
 
-/// How many of first, second, lower and upper each kind allows, counted from the first: the last column of 01's table.
-const ALLOWED: [usize; 6] = [0, 1, 1, 2, 4, 4];
+/// Which of first, second, lower and upper each kind allows: the last column of 01's table, and for the kinds from 6 on
+/// "Six and seven take first and second; the rest take first, lower, upper".
+const ALLOWED: [[bool; 4]; 12] = [NONE, ONE, ONE, TWO, FOUR, FOUR, TWO, TWO, SPAN, SPAN, SPAN, SPAN];
+const NONE: [bool; 4] = [false; 4];
+const ONE: [bool; 4] = [true, false, false, false];
+const TWO: [bool; 4] = [true, true, false, false];
+const FOUR: [bool; 4] = [true; 4];
+const SPAN: [bool; 4] = [true, false, true, true];
 const PROPOSITION_KIND: u16 = 1;
 
 impl Line {
@@ -104,11 +110,11 @@ impl Line {
         let Some(allowed) = ALLOWED.get(usize::from(self.kind)) else {
             return false;
         };
-        let (written, others) = fields.split_at(*allowed);
         // A proposition of the policy, or "numbers of earlier lines".
         let end = if self.kind == PROPOSITION_KIND { propositions } else { number };
-        others.iter().all(|field| *field == 0)
-            && written.iter().take(2).all(|operand| usize::from(*operand) < end)
+        let mut operands = fields.iter().zip(allowed).take(2);
+        fields.iter().zip(allowed).all(|(field, allowed)| *allowed || *field == 0)
+            && operands.all(|(operand, allowed)| !*allowed || usize::from(*operand) < end)
             && self.lower <= self.upper
             && usize::from(self.upper) <= HIGHEST_BOUND
     }
@@ -161,6 +167,7 @@ impl From<&Policy> for PolicyFields {
 impl From<&Subformula> for Line {
     fn from(subformula: &Subformula) -> Line {
         let temporal = |kind, parts: Temporal| [kind, parts.first, parts.second, parts.lower, parts.upper];
+        let spanned = |kind, span: Span| [kind, span.first, 0, span.lower, span.upper];
         let fields = match subformula.formula {
             Formula::True => [0, 0, 0, 0, 0],
             Formula::Proposition(first) => [1, first, 0, 0, 0],
@@ -168,6 +175,12 @@ impl From<&Subformula> for Line {
             Formula::Or(first, second) => [3, first, second, 0, 0],
             Formula::Since(parts) => temporal(4, parts),
             Formula::Until(parts) => temporal(5, parts),
+            Formula::And(first, second) => [6, first, second, 0, 0],
+            Formula::Implies(first, second) => [7, first, second, 0, 0],
+            Formula::Once(span) => spanned(8, span),
+            Formula::Historically(span) => spanned(9, span),
+            Formula::Eventually(span) => spanned(10, span),
+            Formula::Always(span) => spanned(11, span),
         };
         let [kind, first, second, lower, upper] = fields.map(|field| field as u16);
         Line { kind, first, second, lower, upper, rule: subformula.rule }

@@ -3,6 +3,7 @@
 use oracle::brute::Bench;
 use oracle::generate::{self, Limits, Random, TINY};
 use oracle::knowledge::{sound, time_points};
+use oracle::policy::{Formula, Span, Subformula};
 use oracle::truth::Truth;
 use oracle::{open, receive, Answer, Buffers, Policy};
 
@@ -81,6 +82,33 @@ fn more_traces_of_fewer_policies() {
         let bench = bench(&mut random, 16);
         bench.check_textbook();
         for _ in 0..20 {
+            bench.run(&offers(&mut random, &bench, 10));
+        }
+    }
+}
+
+/// A policy of one component with the propositions as its first lines and this rule as its last.
+fn with_rule(propositions: usize, minutes: usize, formula: Formula) -> Policy {
+    let lines = (0..propositions).map(|k| Subformula { formula: Formula::Proposition(k), rule: false });
+    let subformulas = lines.chain([Subformula { formula, rule: true }]).collect();
+    Policy { propositions, components: 1, minutes, subformulas }
+}
+
+/// Each of the six newer kinds over every small interval, or over either order of two operands.
+#[test]
+fn and_implies_once_historically_eventually_and_always_by_the_textbook() {
+    let mut random = Random::new(6);
+    let pairs: [fn(usize, usize) -> Formula; 2] = [Formula::And, Formula::Implies];
+    let spans: [fn(Span) -> Formula; 4] = [Formula::Once, Formula::Historically, Formula::Eventually, Formula::Always];
+    let intervals = (0..=5).flat_map(|upper| (0..=upper).map(move |lower| (lower, upper)));
+    let with_intervals = intervals.flat_map(|(lower, upper)| spans.map(|kind| kind(Span { first: 0, lower, upper })));
+    let with_operands = [(0, 0), (0, 1), (1, 0), (1, 1)].into_iter().flat_map(|(i, j)| pairs.map(|kind| kind(i, j)));
+    let benches = with_intervals
+        .map(|formula| Bench::new(with_rule(1, 4, formula), 2))
+        .chain(with_operands.map(|formula| Bench::new(with_rule(2, 2, formula), 1)));
+    for bench in benches {
+        bench.check_textbook();
+        for _ in 0..4 {
             bench.run(&offers(&mut random, &bench, 10));
         }
     }

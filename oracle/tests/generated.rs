@@ -136,9 +136,13 @@ fn reach(policy: &Policy, number: usize) -> usize {
     match policy.subformulas[number].formula {
         Formula::True | Formula::Proposition(_) => 0,
         Formula::Not(first) => of(first),
-        Formula::Or(first, second) => of(first).max(of(second)),
+        Formula::Or(first, second) | Formula::And(first, second) | Formula::Implies(first, second) => {
+            of(first).max(of(second))
+        }
         Formula::Since(parts) => of(parts.first).max(of(parts.second)),
         Formula::Until(parts) => parts.upper + of(parts.first).max(of(parts.second)),
+        Formula::Once(span) | Formula::Historically(span) => of(span.first),
+        Formula::Eventually(span) | Formula::Always(span) => span.upper + of(span.first),
     }
 }
 

@@ -2,7 +2,7 @@
 
 use oracle::knowledge::known_busy;
 use oracle::message::{self, Event, Message};
-use oracle::policy::{self, Formula, Policy, Subformula, Temporal};
+use oracle::policy::{self, Formula, Policy, Span, Subformula, Temporal};
 use oracle::reading::Verdict;
 use oracle::refusal::*;
 use oracle::{lookup, open, receive, receive_packet, Answer, Buffers, Look, PacketAnswer, Refusal};
@@ -33,6 +33,12 @@ fn a_policy_read() {
         (Formula::Since(since), true),
         (Formula::Until(until), false),
         (Formula::Proposition(0), false),
+        (Formula::And(1, 6), true),
+        (Formula::Implies(0, 7), false),
+        (Formula::Once(Span { first: 8, lower: 258, upper: 1023 }), true),
+        (Formula::Historically(Span { first: 0, lower: 0, upper: 0 }), false),
+        (Formula::Eventually(Span { first: 10, lower: 1, upper: 1 }), false),
+        (Formula::Always(Span { first: 2, lower: 0, upper: 770 }), true),
     ];
     let subformulas = formulas.map(|(formula, rule)| Subformula { formula, rule }).to_vec();
     let expected = Policy { propositions: 2, components: 2, minutes: 3, subformulas };
@@ -44,9 +50,15 @@ fn a_policy_read() {
         &[0x3F, 4, 1, 2, 0x02, 0x01, 0xFF, 0x03],
         &[0x01, 5],
         &[0x01, 1],
+        &[0x27, 6, 1, 6],
+        &[0x05, 7, 7],
+        &[0x3B, 8, 8, 0x02, 0x01, 0xFF, 0x03],
+        &[0x01, 9],
+        &[0x1B, 10, 10, 1, 0, 1, 0],
+        &[0x33, 11, 2, 0x02, 0x03],
     ]);
     assert_eq!(policy::read(&bytes), Ok(expected));
-    assert_eq!(policy::read(&bytes).unwrap().rules(), [1, 3, 4]);
+    assert_eq!(policy::read(&bytes).unwrap().rules(), [1, 3, 4, 7, 9, 12]);
 }
 
 #[test]
@@ -99,7 +111,8 @@ fn a_bad_line_is_3_at_its_map() {
         &[0x40],                      // bit 6
         &[0x80],                      // bit 7
         &[0x01, 0],                   // kind written, and 0
-        &[0x01, 6],                   // no such kind
+        &[0x01, 12],                  // no such kind
+        &[0x01, 13],                  // no such kind
         &[0x01, 255],                 // no such kind
         &[0x02, 1],                   // true allows no field
         &[0x04, 1],                   // true allows no field
@@ -126,6 +139,35 @@ fn a_bad_line_is_3_at_its_map() {
         &[0x19, 4, 0, 0, 1, 0],       // lower written, and 0
         &[0x1F, 4, 1, 0, 1, 0, 1, 0], // second written, and 0
         &[0xDF, 4, 1, 1, 1, 0, 1, 0], // all as should be, but bits 6 and 7
+        &[0x03, 6, 2],                // and: the line itself first
+        &[0x05, 6, 2],                // and: the line itself second
+        &[0x07, 6, 1, 3],             // and: a later line
+        &[0x07, 6, 0, 1],             // first written, and 0
+        &[0x07, 6, 1, 0],             // second written, and 0
+        &[0x11, 6, 1, 0],             // and allows no upper
+        &[0x03, 7, 2],                // implies: the line itself first
+        &[0x05, 7, 2],                // implies: the line itself second
+        &[0x07, 7, 3, 1],             // implies: a later line
+        &[0x19, 7, 1, 0, 1, 0],       // implies allows no lower and no upper
+        &[0x05, 8, 1],                // once allows no second
+        &[0x05, 8, 0],                // nor a written 0 there
+        &[0x13, 8, 2, 1, 0],          // once: the line itself
+        &[0x13, 8, 0, 1, 0],          // first written, and 0
+        &[0x19, 8, 2, 0, 1, 0],       // lower above upper
+        &[0x1F, 9, 1, 1, 1, 0, 1, 0], // historically allows no second
+        &[0x13, 9, 3, 1, 0],          // historically: a later line
+        &[0x09, 9, 1, 0],             // lower above upper
+        &[0x11, 9, 0x00, 0x04],       // upper 1,024
+        &[0x17, 10, 1, 1, 1, 0],      // eventually allows no second
+        &[0x03, 10, 2],               // eventually: the line itself
+        &[0x19, 10, 0, 4, 0, 4],      // both 1,024
+        &[0x11, 10, 0, 0],            // upper written, and 0
+        &[0x15, 11, 1, 1, 0],         // always allows no second
+        &[0x03, 11, 2],               // always: the line itself
+        &[0x19, 11, 2, 0, 1, 0],      // lower above upper
+        &[0x11, 11, 0xFF, 0xFF],      // upper far too high
+        &[0x19, 11, 0, 0, 1, 0],      // lower written, and 0
+        &[0x5B, 11, 1, 1, 0, 1, 0],   // all as should be, but bit 6
     ];
     for line in bad {
         assert_eq!(policy_refusal(&with_lines(&[TRUE, RULE, line])), (3, 7), "{line:02X?}");
@@ -144,15 +186,51 @@ fn a_bad_line_is_3_at_its_map() {
         &[0x01, 4],
         &[0x19, 4, 1, 0, 1, 0],
         &[0x1F, 5, 1, 1, 0xFF, 0x03, 0xFF, 0x03],
+        &[0x07, 6, 1, 1],
+        &[0x01, 6],
+        &[0x07, 7, 1, 1],
+        &[0x01, 7],
+        &[0x1B, 8, 1, 0xFF, 0x03, 0xFF, 0x03],
+        &[0x01, 8],
+        &[0x11, 9, 0xFF, 0x03],
+        &[0x19, 10, 1, 0, 1, 0],
+        &[0x13, 11, 1, 1, 0],
     ];
     for line in good {
         assert!(policy::read(&with_lines(&[TRUE, RULE, line])).is_ok(), "{line:02X?}");
     }
 }
 
+/// The bits of the fields that each kind allows, its own among them: 1 first, 2 second, 3 lower, 4 upper.
+const ALLOWED: [u8; 12] = [0x01, 0x03, 0x03, 0x07, 0x1F, 0x1F, 0x07, 0x07, 0x1B, 0x1B, 0x1B, 0x1B];
+
+/// Each kind with every choice of fields, all of them 1, after two lines.
+#[test]
+fn each_kind_with_every_choice_of_fields() {
+    let sizes = [1, 1, 1, 2, 2];
+    let mut good = [0; 12];
+    for kind in 1..=255 {
+        for map in (0x01..0x20).step_by(2) {
+            let written = (1..5).filter(|bit| map >> bit & 1 == 1).flat_map(|bit| &[1, 0][..sizes[bit]]);
+            let line: Vec<u8> = [map, kind].iter().chain(written).copied().collect();
+            let allowed = ALLOWED.get(usize::from(kind)).is_some_and(|allowed| map & !allowed == 0);
+            // A lower of 1 is above an upper that is not written.
+            let right = allowed && map & 0x18 != 0x08;
+            let read = policy::read(&with_lines(&[TRUE, RULE, &line]));
+            if right {
+                good[usize::from(kind)] += 1;
+                assert_eq!(read.map(|policy| policy.subformulas.len()), Ok(3), "{line:02X?}");
+            } else {
+                assert_eq!(read, Err(Refusal { number: BAD_SUBFORMULA, place: 7 }), "{line:02X?}");
+            }
+        }
+    }
+    assert_eq!(good, [0, 2, 2, 4, 12, 12, 4, 4, 6, 6, 6, 6]);
+}
+
 #[test]
 fn the_first_line_has_no_earlier_ones() {
-    for kind in 2..=5 {
+    for kind in 2..=11 {
         assert_eq!(policy_refusal(&with_lines(&[&[0x21, kind]])), (3, 5));
     }
     // The first bad line is told, and before what follows it.

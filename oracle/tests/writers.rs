@@ -66,11 +66,26 @@ fn a_policy_with_every_kind_and_every_field() {
         line(4, 1, 2, 258, 1023),
         line(5, 0, 0, 0, 0),
         line(1, 0, 0, 0, 0),
+        line(6, 1, 6, 0, 0),
+        line(7, 0, 7, 0, 0),
+        line(8, 8, 0, 258, 1023),
+        line(9, 0, 0, 0, 0),
+        line(10, 10, 0, 1, 1),
+        line(11, 2, 0, 0, 770),
     ];
-    [1, 3, 4].into_iter().for_each(|number: usize| lines[number].rule = true);
-    let bytes =
-        [2, 2, 3, 0, 7, 0x00, 0x23, 1, 1, 0x01, 2, 0x23, 3, 1, 0x3F, 4, 1, 2, 0x02, 0x01, 0xFF, 0x03, 0x01, 5, 0x01, 1];
-    assert_eq!(policy_text(&with_lines(&lines)).unwrap(), bytes);
+    [1, 3, 4, 7, 9, 12].into_iter().for_each(|number: usize| lines[number].rule = true);
+    let older = [
+        2, 2, 3, 0, 13, 0x00, 0x23, 1, 1, 0x01, 2, 0x23, 3, 1, 0x3F, 4, 1, 2, 0x02, 0x01, 0xFF, 0x03, 0x01, 5, 0x01, 1,
+    ];
+    let newer: [&[u8]; 6] = [
+        &[0x27, 6, 1, 6],
+        &[0x05, 7, 7],
+        &[0x3B, 8, 8, 0x02, 0x01, 0xFF, 0x03],
+        &[0x01, 9],
+        &[0x1B, 10, 10, 1, 0, 1, 0],
+        &[0x33, 11, 2, 0x02, 0x03],
+    ];
+    assert_eq!(policy_text(&with_lines(&lines)).unwrap(), [&older[..], &newer.concat()].concat());
 }
 
 #[test]
@@ -108,9 +123,12 @@ fn a_heading_number_out_of_range_is_2() {
 #[test]
 fn a_bad_line_is_3() {
     let bad = [
-        line(6, 0, 0, 0, 0),       // no such kind
+        line(12, 0, 0, 0, 0),      // no such kind
+        line(13, 0, 0, 0, 0),      // no such kind
         line(255, 0, 0, 0, 0),     // no such kind
         line(256, 0, 0, 0, 0),     // no such kind, though its low byte is one
+        line(262, 0, 0, 0, 0),     // no such kind, though its low byte is one
+        line(65535, 0, 0, 0, 0),   // no such kind
         line(0, 1, 0, 0, 0),       // true allows no field
         line(0, 0, 1, 0, 0),       // true allows no field
         line(0, 0, 0, 1, 1),       // true allows no field
@@ -134,17 +152,82 @@ fn a_bad_line_is_3() {
         line(5, 0, 0, 0, 1024),    // upper 1,024
         line(5, 0, 0, 1024, 1024), // both 1,024
         line(5, 0, 0, 0, 65535),   // upper far too high
+        line(6, 2, 0, 0, 0),       // and: the line itself first
+        line(6, 0, 2, 0, 0),       // and: the line itself second
+        line(6, 256, 0, 0, 0),     // and: no line, though its low byte is an earlier one
+        line(6, 0, 0, 0, 1),       // and allows no upper
+        line(6, 0, 0, 1, 1),       // and allows no lower
+        line(7, 2, 0, 0, 0),       // implies: the line itself first
+        line(7, 0, 3, 0, 0),       // implies: a later line second
+        line(7, 0, 0, 0, 1),       // implies allows no upper
+        line(8, 2, 0, 0, 1),       // once: the line itself
+        line(8, 0, 1, 0, 1),       // once allows no second
+        line(8, 0, 256, 0, 1),     // once allows no second, though its low byte is 0
+        line(8, 0, 0, 1, 0),       // lower above upper
+        line(9, 3, 0, 0, 1),       // historically: a later line
+        line(9, 1, 1, 1, 1),       // historically allows no second
+        line(9, 0, 0, 1024, 1024), // both 1,024
+        line(10, 256, 0, 0, 1),    // eventually: no line, though its low byte is an earlier one
+        line(10, 0, 1, 0, 0),      // eventually allows no second
+        line(10, 0, 0, 0, 1024),   // upper 1,024
+        line(11, 2, 0, 0, 0),      // always: the line itself
+        line(11, 1, 1, 1, 1),      // always allows no second
+        line(11, 0, 0, 1023, 9),   // lower above upper
+        line(11, 0, 0, 0, 65535),  // upper far too high
     ];
     for line in bad {
         assert_eq!(policy_text(&with_lines(&[TRUE, RULE, line])), refused(BAD_SUBFORMULA), "{line:?}");
     }
-    for kind in 2..=5 {
+    for kind in 2..=11 {
         assert_eq!(policy_text(&with_lines(&[Line { kind, ..RULE }])), refused(BAD_SUBFORMULA));
     }
-    let good =
-        [line(1, 1, 0, 0, 0), line(2, 1, 0, 0, 0), line(3, 1, 1, 0, 0), line(4, 1, 1, 1023, 1023), line(5, 0, 0, 0, 0)];
+    let good = [
+        line(1, 1, 0, 0, 0),
+        line(2, 1, 0, 0, 0),
+        line(3, 1, 1, 0, 0),
+        line(4, 1, 1, 1023, 1023),
+        line(5, 0, 0, 0, 0),
+        line(6, 1, 1, 0, 0),
+        line(7, 1, 1, 0, 0),
+        line(8, 1, 0, 1023, 1023),
+        line(9, 1, 0, 0, 1023),
+        line(10, 0, 0, 0, 0),
+        line(11, 1, 0, 1, 1),
+    ];
     for line in good {
         assert!(policy_text(&with_lines(&[TRUE, RULE, line])).is_ok(), "{line:?}");
+    }
+}
+
+/// Which of first, second, lower and upper each kind allows.
+const ALLOWED: [[bool; 4]; 12] = [
+    [false, false, false, false],
+    [true, false, false, false],
+    [true, false, false, false],
+    [true, true, false, false],
+    [true, true, true, true],
+    [true, true, true, true],
+    [true, true, false, false],
+    [true, true, false, false],
+    [true, false, true, true],
+    [true, false, true, true],
+    [true, false, true, true],
+    [true, false, true, true],
+];
+
+/// Each kind with every choice of fields that are 1, the others 0, after two lines.
+#[test]
+fn each_kind_with_every_choice_of_fields() {
+    for kind in 0..=300 {
+        for choice in 0..16 {
+            let [first, second, lower, upper] = [0, 1, 2, 3].map(|field| choice >> field & 1);
+            let fields = [first, second, lower, upper];
+            let allowed = ALLOWED.get(usize::from(kind));
+            let right = allowed.is_some_and(|allowed| (0..4).all(|field| allowed[field] || fields[field] == 0));
+            let text = policy_text(&with_lines(&[TRUE, RULE, line(kind, first, second, lower, upper)]));
+            assert_eq!(text.is_ok(), right && lower <= upper, "{kind} {fields:?}");
+            assert!(text.is_ok() || text == refused(BAD_SUBFORMULA), "{kind} {fields:?}");
+        }
     }
 }
 
@@ -159,7 +242,7 @@ fn no_rule_or_nine_is_4() {
 #[test]
 fn a_policy_is_refused_with_2_then_3_then_4_then_11() {
     let write = |fields: &PolicyFields, length: usize| encode_policy(fields, &mut vec![0; length]);
-    let mut fields = PolicyFields { minutes: 0, ..with_lines(&[TRUE, TRUE, line(6, 0, 0, 0, 0)]) };
+    let mut fields = PolicyFields { minutes: 0, ..with_lines(&[TRUE, TRUE, line(12, 0, 0, 0, 0)]) };
     assert_eq!(write(&fields, 0), refused(BAD_HEADING));
     fields.minutes = 3;
     assert_eq!(write(&fields, 0), refused(BAD_SUBFORMULA));
@@ -170,7 +253,7 @@ fn a_policy_is_refused_with_2_then_3_then_4_then_11() {
     assert_eq!(write(&fields, 8), Ok(8));
     // A bad line after nine rules is still told first, and so is a heading whose lines are bad.
     assert_eq!(write(&with_lines(&[&[RULE; 9][..], &[line(0, 1, 0, 0, 0)]].concat()), 99), refused(BAD_SUBFORMULA));
-    assert_eq!(write(&with_lines(&[line(6, 0, 0, 0, 0); 65]), 99), refused(BAD_HEADING));
+    assert_eq!(write(&with_lines(&[line(12, 0, 0, 0, 0); 65]), 99), refused(BAD_HEADING));
 }
 
 /// Two propositions, two components, three minutes.
@@ -257,7 +340,7 @@ fn a_short_buffer_is_11_and_a_longer_one_keeps_its_rest() {
 fn a_refusal_writes_nothing() {
     let mut out = [0x5A; 600];
     assert_eq!(encode_policy(&with_lines(&[]), &mut out), refused(BAD_HEADING));
-    assert_eq!(encode_policy(&with_lines(&[RULE, line(6, 0, 0, 0, 0)]), &mut out), refused(BAD_SUBFORMULA));
+    assert_eq!(encode_policy(&with_lines(&[RULE, line(12, 0, 0, 0, 0)]), &mut out), refused(BAD_SUBFORMULA));
     assert_eq!(encode_policy(&with_lines(&[TRUE]), &mut out), refused(RULE_COUNT));
     assert_eq!(encode_message(&sizes(), &observation(0, 0, 0, 0, 0), &mut out), refused(BAD_MESSAGE));
     assert_eq!(out, [0x5A; 600]);

@@ -11,6 +11,20 @@ pub enum Formula {
     Or(u8, u8),
     Since { left: u8, right: u8, lower: u16, upper: u16 },
     Until { left: u8, right: u8, lower: u16, upper: u16 },
+    And(u8, u8),
+    Implies(u8, u8),
+    Once(Span),
+    Historically(Span),
+    Eventually(Span),
+    Always(Span),
+}
+
+/// One operand, from lower to upper minutes away.
+#[derive(Clone, Copy)]
+pub struct Span {
+    pub operand: u8,
+    pub lower: u16,
+    pub upper: u16,
 }
 
 #[derive(Clone, Copy)]
@@ -80,15 +94,16 @@ fn is_good(fields: &Fields, line: usize, propositions: usize) -> bool {
     let allowed = match fields.kind {
         0 => 0b00001,
         1 | 2 => 0b00011,
-        3 => 0b00111,
-        _ => 0b11111,
+        3 | 6 | 7 => 0b00111,
+        4 | 5 => 0b11111,
+        _ => 0b11011,
     };
     let (first, second) = (fields.first as usize, fields.second as usize);
     let operands = match fields.kind {
         0 => true,
         1 => first < propositions,
-        2 => first < line,
-        3..=5 => first < line && second < line,
+        2 | 8..=11 => first < line,
+        3..=7 => first < line && second < line,
         _ => false,
     };
     fields.map < 64
@@ -100,13 +115,20 @@ fn is_good(fields: &Fields, line: usize, propositions: usize) -> bool {
 }
 
 fn formula(f: &Fields) -> Formula {
+    let span = Span { operand: f.first, lower: f.lower, upper: f.upper };
     match f.kind {
         0 => Formula::True,
         1 => Formula::Proposition(f.first),
         2 => Formula::Not(f.first),
         3 => Formula::Or(f.first, f.second),
         4 => Formula::Since { left: f.first, right: f.second, lower: f.lower, upper: f.upper },
-        _ => Formula::Until { left: f.first, right: f.second, lower: f.lower, upper: f.upper },
+        5 => Formula::Until { left: f.first, right: f.second, lower: f.lower, upper: f.upper },
+        6 => Formula::And(f.first, f.second),
+        7 => Formula::Implies(f.first, f.second),
+        8 => Formula::Once(span),
+        9 => Formula::Historically(span),
+        10 => Formula::Eventually(span),
+        _ => Formula::Always(span),
     }
 }
 

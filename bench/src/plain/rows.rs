@@ -1,11 +1,54 @@
 //! The two sheets: each row in one pass over the minutes.
 
-use super::policy::{Formula, Policy};
+use super::policy::{Formula, Policy, Span};
 
-const OR: [[u8; 3]; 3] = [[0, 1, 0], [1, 1, 1], [0, 1, 2]];
-const NOT: [u8; 3] = [0, 2, 1];
-fn table(table: &[[u8; 3]; 3], x: u8, y: u8) -> u8 {
-    table[x as usize][y as usize]
+/// The code of `not x`.
+fn not(x: u8) -> u8 {
+    if x == 0 {
+        0
+    } else {
+        3 - x
+    }
+}
+
+/// The code of `x or y`.
+fn or(x: u8, y: u8) -> u8 {
+    if (x == 1) | (y == 1) {
+        1
+    } else if (x == 2) & (y == 2) {
+        2
+    } else {
+        0
+    }
+}
+
+/// The code of `x and y`.
+fn and(x: u8, y: u8) -> u8 {
+    if (x == 2) | (y == 2) {
+        2
+    } else if (x == 1) & (y == 1) {
+        1
+    } else {
+        0
+    }
+}
+
+/// The code of `x implies y`.
+fn implies(x: u8, y: u8) -> u8 {
+    if (x == 2) | (y == 1) {
+        1
+    } else if (x == 1) & (y == 2) {
+        2
+    } else {
+        0
+    }
+}
+
+/// The row of two operands that are joined minute by minute.
+fn join_row(left: &[u8], right: &[u8], join: impl Fn(u8, u8) -> u8, row: &mut [u8]) {
+    for ((cell, &x), &y) in row.iter_mut().zip(left).zip(right) {
+        *cell = join(x, y);
+    }
 }
 
 /// The rank (false 0, unknown 1, true 2) of `x and y`.
@@ -58,6 +101,11 @@ fn code(sure: bool, may: bool) -> u8 {
     }
 }
 
+/// The code of a value whose contrary is surely so, or may be so.
+fn contrary(sure: bool, may: bool) -> u8 {
+    code(!may, !sure)
+}
+
 /// The ranks of all minutes, by `rank` of e and of the operand.
 fn ranks(points: &[u8], operand: &[u8], rank: impl Fn(u8, u8) -> u8) -> [u8; 1024] {
     let mut ranks = [0; 1024];
@@ -97,6 +145,33 @@ fn until_row(points: &[u8], left: &[u8], right: &[u8], lower: usize, upper: usiz
     }
 }
 
+/// A once, by the ranks of its operand at time points; a historically, by those of not the operand, is the contrary.
+fn once_row(begin_at: &[u8; 1024], span: Span, code: impl Fn(bool, bool) -> u8, row: &mut [u8]) {
+    let (lower, upper) = (span.lower as usize, span.upper as usize);
+    let mut begins = Nearest { sure: 0, may: 0 };
+    for (t, cell) in row.iter_mut().enumerate() {
+        if let Some(j) = t.checked_sub(lower) {
+            begins.note(j + 1, begin_at[j]);
+        }
+        let start = t.saturating_sub(upper);
+        *cell = code(begins.sure > start, begins.may > start);
+    }
+}
+
+/// An eventually, by the ranks of its operand at time points; an always, by those of not the operand, is the contrary.
+fn eventually_row(begin_at: &[u8; 1024], span: Span, code: impl Fn(bool, bool) -> u8, row: &mut [u8]) {
+    let (lower, upper) = (span.lower as usize, span.upper as usize);
+    let minutes = row.len();
+    let mut begins = Nearest { sure: usize::MAX, may: minutes + lower };
+    for (t, cell) in row.iter_mut().enumerate().rev() {
+        let j = t + lower;
+        let rank = if j < minutes { begin_at[j] } else { 1 };
+        begins.note(j, rank);
+        let end = t + upper;
+        *cell = code(begins.sure <= end, begins.may <= end);
+    }
+}
+
 fn fact_code(known: u32, values: u32, proposition: u8) -> u8 {
     if known >> proposition & 1 == 0 {
         0
@@ -123,20 +198,22 @@ pub fn evaluate(policy: &Policy, points: &[u8], facts: &[u32], valuation: &mut [
             }
             Formula::Not(i) => {
                 for (cell, &x) in row.iter_mut().zip(run(i)) {
-                    *cell = NOT[x as usize];
+                    *cell = not(x);
                 }
             }
-            Formula::Or(i, j) => {
-                for ((cell, &x), &y) in row.iter_mut().zip(run(i)).zip(run(j)) {
-                    *cell = table(&OR, x, y);
-                }
-            }
+            Formula::Or(i, j) => join_row(run(i), run(j), or, row),
             Formula::Since { left, right, lower, upper } => {
                 since_row(points, run(left), run(right), lower as usize, upper as usize, row)
             }
             Formula::Until { left, right, lower, upper } => {
                 until_row(points, run(left), run(right), lower as usize, upper as usize, row)
             }
+            Formula::And(i, j) => join_row(run(i), run(j), and, row),
+            Formula::Implies(i, j) => join_row(run(i), run(j), implies, row),
+            Formula::Once(span) => once_row(&ranks(points, run(span.operand), both), span, code, row),
+            Formula::Historically(span) => once_row(&ranks(points, run(span.operand), apart), span, contrary, row),
+            Formula::Eventually(span) => eventually_row(&ranks(points, run(span.operand), both), span, code, row),
+            Formula::Always(span) => eventually_row(&ranks(points, run(span.operand), apart), span, contrary, row),
         }
     }
 }

@@ -182,6 +182,37 @@ pub record Two-cards (x : State) : Type 0 where
   pub unsound-other : receive U (unsound x) A .answer ≡ Refused OtherPolicy
   pub unsound-own : receive K (unsound x) A .answer ≡ Refused CorruptKnowledge
 
+-- 02, request 6: and, implies, once, historically, eventually and always, each a rule: of marks 0 and 1, or of mark 0 from 0 to 1 minutes away
+abbrev N : List ℕ
+N =
+    0x02 ∷ 0x01 ∷ 0x04 ∷ 0x00 ∷ 0x08
+    ∷ 0x01 ∷ 0x01
+    ∷ 0x03 ∷ 0x01 ∷ 0x01
+    ∷ 0x25 ∷ 0x06 ∷ 0x01
+    ∷ 0x25 ∷ 0x07 ∷ 0x01
+    ∷ 0x31 ∷ 0x08 ∷ 0x01 ∷ 0x00
+    ∷ 0x31 ∷ 0x09 ∷ 0x01 ∷ 0x00
+    ∷ 0x31 ∷ 0x0A ∷ 0x01 ∷ 0x00
+    ∷ 0x31 ∷ 0x0B ∷ 0x01 ∷ 0x00
+    ∷ []
+
+-- mark 0 alone at minute 0, and, as the next observation, mark 1 alone at minute 2: minute 1 is quiet, minute 3 open
+abbrev first-at-0 : List ℕ
+first-at-0 = 0x0C ∷ 0x01 ∷ 0x00 ∷ 0x03 ∷ 0x00 ∷ 0x00 ∷ 0x00 ∷ 0x01 ∷ []
+
+abbrev second-at-2 : List ℕ
+second-at-2 = 0x0E ∷ 0x02 ∷ 0x00 ∷ 0x02 ∷ 0x00 ∷ 0x03 ∷ 0x00 ∷ 0x00 ∷ 0x00 ∷ 0x02 ∷ []
+
+-- x are the buffers before the opening under N
+pub record Six-kinds (x : State) : Type 0 where
+  -- a rule a row; an eventually that may still hold at minute 3, or past it, is blank
+  pub verdicts : sheet N x (first-at-0 ∷ second-at-2 ∷ [])
+      ≡ row 2 0 2 0 ++ row 2 0 1 0 ++ row 1 0 2 0 ++ row 1 0 2 0 ++ row 1 0 0 0 ++ row 1 0 2 0
+  -- the work sheet, after the marks' own rows: at the quiet minute 1 once, historically, eventually and always have values, and no verdict
+  pub values : after N x (map Receive (first-at-0 ∷ second-at-2 ∷ [])) .valuation
+      ≡ row 1 0 2 0 ++ row 2 0 1 0 ++ row 2 0 2 0 ++ row 2 0 1 0 ++ row 1 1 2 0 ++ row 1 1 2 2 ++ row 1 2 0 0 ++ row 1 2 2 0
+  pub total : reply N x (first-at-0 ∷ []) second-at-2 ≡ Received 11
+
 -- what is assumed of x and y below is so for any buffers of the cards' sizes: both openings are done
 pub opens-sized : (n f v d : List ℕ) (o : Origin) → length n ≡ 5 → length f ≡ 8 → length v ≡ 12 → length d ≡ 4 → length (o .bytes) ≡ 517
     → (open-state K (lent n f v d o) .answer ≡ Done) × (open-state U (lent n f v d o) .answer ≡ Done)
@@ -192,6 +223,11 @@ pub opens-lost : (n f v d : List ℕ) (o : Origin) → length n ≡ 5 → length
     → open-state T (lent n f v d o) .answer ≡ Done
 unfolding open-state line-length fields-at keeps-kind good-line meaning formula-of subformula-of subformula-at heading-checks offset line-checks lines-checks lines-up-to subformulas-of rule-lines rules-up-to closing-checks policy-checks policy-answer policy-of sizes-fit
 opens-lost n f v d o a b c e g = rw (a, b, c, e, g) refl
+
+pub opens-six : (n f v d : List ℕ) (o : Origin) → length n ≡ 5 → length f ≡ 8 → length v ≡ 32 → length d ≡ 24 → length (o .bytes) ≡ 517
+    → open-state N (lent n f v d o) .answer ≡ Done
+unfolding open-state line-length fields-at keeps-kind good-line meaning formula-of subformula-of subformula-at heading-checks offset line-checks lines-checks lines-up-to subformulas-of rule-lines rules-up-to closing-checks policy-checks policy-answer policy-of sizes-fit
+opens-six n f v d o a b c e g = rw (a, b, c, e, g) refl
 
 -- each case, from the opened state on
 module _ (s : List ℕ) (x : State) (e : open-state s x .state ≡ opened (policy-of s) (origin-of s)) where
@@ -239,6 +275,16 @@ lost-slips x d =
       by-alive = sheet-from T x k (alive-at-3 ∷ []);
       one-open = sheet-from T x k (one-short ∷ []);
       then-known = sheet-from T x k (one-short ∷ (0x12 ∷ 0x01 ∷ 0x00 ∷ []) ∷ []);
+    }
+
+pub six-kinds : (x : State) → open-state N x .answer ≡ Done → Six-kinds x
+unfolding digit below expanded bit since until deep reading line-length fields-at keeps-kind good-line meaning formula-of subformula-of subformula-at heading-checks offset line-checks lines-checks lines-up-to subformulas-of rule-lines rules-up-to closing-checks policy-checks policy-answer policy-of component-of minute-of number-of named-of packed-of length-of fields-of good-alive good-observation all-written good-fields message-answer event-in meaning-of noted valued number is-point is-none sound fresh stored free admits valuation-of verdicts-of standing sizes-fit opened opened-under receive follow steady level full word-sound words-agree
+six-kinds x d =
+    let k : open-state N x .state ≡ opened (policy-of N) (origin-of N) = opens N x d .state in
+    record {
+      verdicts = sheet-from N x k (first-at-0 ∷ second-at-2 ∷ []);
+      values = ap (λ (y : State). y .valuation) (state-from N x k (first-at-0 ∷ second-at-2 ∷ []));
+      total = reply-from N x k (first-at-0 ∷ []) second-at-2;
     }
 
 module _ (x : State) (e : open-state K x .state ≡ opened (policy-of K) (origin-of K)) where

@@ -5,7 +5,7 @@ use Prim.Native.Nat.{ℕ, zero, suc}
 use native.Mathlib.Omega.{arith}
 use lib.Dec.{eqb}
 use borrow.Author.Tests.{ne-eqb}
-use Rattle.kleene.specs.Truth.{Truth, unknown, true3, false3, value-of, not3, or3}
+use Rattle.kleene.specs.Truth.{Truth, unknown, true3, false3, code-of, value-of, not3, or3, and3, implies3}
 
 -- the code of a value that is known
 abbrev pub known-code : Bool → ℕ
@@ -14,6 +14,19 @@ known-code b = cond b 1 2
 -- x, or not x where it is negated
 abbrev pub literal : Bool → Truth → Truth
 literal negated x = cond negated (not3 x) x
+
+-- the codes of true and of false, where they are negated
+pub known-true : (negated : Bool) → known-code (not negated) ≡ code-of (literal negated true3)
+known-true true = refl
+known-true false = refl
+
+pub known-false : (negated : Bool) → known-code negated ≡ code-of (literal negated false3)
+known-false true = refl
+known-false false = refl
+
+pub known-open : (negated : Bool) → 0 ≡ code-of (literal negated unknown)
+known-open true = refl
+known-open false = refl
 
 -- true, false, and neither
 unfoldable pub says : Bool → Bool → Truth
@@ -52,6 +65,10 @@ not-not : (x : Truth) → not3 (not3 x) ≡ x
 not-not unknown = refl
 not-not true3 = refl
 not-not false3 = refl
+
+-- a implies b is not (a and not b) too
+pub implies-and : (x y : Truth) → not3 (and3 x (not3 y)) ≡ implies3 x y
+implies-and x y = not-not (or3 (not3 x) (not3 (not3 y))) ∙ ap (or3 (not3 x)) (not-not y)
 
 pub not-says : (b : Bool) (x : ℕ) → not3 (literal b (value-of x)) ≡ says (eqb x (known-code b)) (eqb x (known-code (not b)))
 not-says true x = not-not (value-of x) ∙ code-says false x

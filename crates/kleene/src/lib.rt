@@ -60,7 +60,7 @@ pub fn or(x: u8, y: u8) -> u8
 }
 
 // The code of a value that is known.
-fn known(value: bool) -> u8
+pub fn known(value: bool) -> u8
     ensures { λ r. ⌜ r ≡ known-code value ⌝ }
 {
     if value { TRUE } else { FALSE }

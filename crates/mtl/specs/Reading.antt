@@ -2,8 +2,8 @@
 use Prim.Native.Nat.{ℕ, zero, suc, _+_, _-_}
 use mathlib.Core.Bool.{Bool, true, false}
 use Rattle.mtl.specs.declared.Formula.{Formula}
-use Rattle.mtl.specs.declared.Formula.the-variants.{True, Proposition, Not, Or, Since, Until}
 use Rattle.mtl.specs.Algebra.{Algebra, meet, implies, any, all}
+use Rattle.mtl.specs.Abbreviations.{Binary, either, back, ahead, Expression, operand, true′, proposition′, not′, binary, abbreviation}
 
 pub record World (A : Type 0) : Type 0 where
   -- e(t): is the minute a time point (01: busy)
@@ -71,20 +71,25 @@ module _ {A : Type 0} (a : Algebra A) (w : World A) where
   until α β lower upper t =
       any a (until-start lower t) (until-count lower upper) (λ j. meet a (meets β j) (keeps α (before-start t) (before-count j t)))
 
-  -- a subformula's value from the values of those that it names
-  abbrev pub meaning : (ℕ → ℕ → A) → Formula → ℕ → A
-  meaning v True t = a .top
-  meaning v (Proposition p) t = seen w t (w .proposition p t)
-  meaning v (Not i) t = a .neg (v i t)
-  meaning v (Or i j) t = a .join (v i t) (v j t)
-  meaning v (Since i j lower upper) t = since (v i) (v j) lower upper t
-  meaning v (Until i j lower upper) t = until (v i) (v j) lower upper t
+  -- "α or β", since and until, from what α and β are at each minute
+  abbrev pub combined : Binary → (ℕ → A) → (ℕ → A) → ℕ → A
+  combined either α β t = a .join (α t) (β t)
+  combined (back lower upper) α β t = since α β lower upper t
+  combined (ahead lower upper) α β t = until α β lower upper t
 
-  -- subformula i, read d subformulas deep
+  -- An expression's value from the values of its leaves. Every part of it reads as a line of its own does: as far as the window shows it
+  abbrev pub meaning : (ℕ → ℕ → A) → Expression → ℕ → A
+  meaning v (operand i) t = v i t
+  meaning v true′ t = seen w t (a .top)
+  meaning v (proposition′ p) t = seen w t (w .proposition p t)
+  meaning v (not′ x) t = seen w t (a .neg (meaning v x t))
+  meaning v (binary k x y) t = seen w t (combined k (meaning v x) (meaning v y) t)
+
+  -- subformula i, read d subformulas deep: the value of its abbreviation
   unfoldable pub deep : (ℕ → Formula) → ℕ → ℕ → ℕ → A
   unfolding since until
   deep line zero i t = a .bottom
-  deep line (suc d) i t = seen w t (meaning (deep line d) (line i) t)
+  deep line (suc d) i t = meaning (deep line d) (abbreviation (line i)) t
 
   -- the reading of subformula k at minute t
   unfoldable pub reading : (ℕ → Formula) → ℕ → ℕ → A

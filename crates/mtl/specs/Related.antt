@@ -2,10 +2,9 @@
 -- readings. By induction on the depth of the reading, and in it over the folds.
 use Prim.Native.Nat.{ℕ, zero, suc, _+_}
 use Rattle.mtl.specs.declared.Formula.{Formula}
-use Rattle.mtl.specs.declared.Formula.the-variants.{True, Proposition, Not, Or, Since, Until}
 use Rattle.mtl.specs.Algebra.{Algebra, fold, meet}
-use Rattle.mtl.specs.Syntax.{Operands}
-use Rattle.mtl.specs.Reading.{World, since-start, since-count, after-start, after-count, until-start, until-count, before-start, before-count, seen, point, meets, keeps, since, until, meaning, deep, reading}
+use Rattle.mtl.specs.Abbreviations.{Binary, either, back, ahead, Expression, operand, true′, proposition′, not′, binary, abbreviation, Leaves, leaves-all}
+use Rattle.mtl.specs.Reading.{World, since-start, since-count, after-start, after-count, until-start, until-count, before-start, before-count, seen, point, meets, keeps, since, until, combined, meaning, deep, reading}
 
 -- R is kept by the operations of the two algebras
 pub record Kept {A B : Type 0} (R : A → B → Type 0) (a : Algebra A) (b : Algebra B) : Type 0 where
@@ -19,22 +18,6 @@ pub record Alike {A B : Type 0} (R : A → B → Type 0) (v : World A) (w : Worl
   pub time-point : (t : ℕ) → R (seen v t (v .time-point t)) (seen w t (w .time-point t))
   pub proposition : (p t : ℕ) → R (seen v t (v .proposition p t)) (seen w t (w .proposition p t))
   pub shown : (t : ℕ) {x : A} {y : B} → R x y → R (seen v t x) (seen w t y)
-
-pub operands-map : (φ : Formula) {P Q : ℕ → Type 0} → ((i : ℕ) → P i → Q i) → Operands P φ → Operands Q φ
-operands-map True f h = tt
-operands-map (Proposition p) f h = tt
-operands-map (Not i) f h = f i h
-operands-map (Or i j) f h = (f i (h .0), f j (h .1))
-operands-map (Since i j lower upper) f h = (f i (h .0), f j (h .1))
-operands-map (Until i j lower upper) f h = (f i (h .0), f j (h .1))
-
-pub operands-all : (φ : Formula) {P : ℕ → Type 0} → ((i : ℕ) → P i) → Operands P φ
-operands-all True f = tt
-operands-all (Proposition p) f = tt
-operands-all (Not i) f = f i
-operands-all (Or i j) f = (f i, f j)
-operands-all (Since i j lower upper) f = (f i, f j)
-operands-all (Until i j lower upper) f = (f i, f j)
 
 module _ {A B : Type 0} (R : A → B → Type 0) (a : Algebra A) (b : Algebra B) (k : Kept R a b) where
   meet-kept : {x : A} {y : B} {x′ : A} {y′ : B} → R x y → R x′ y′ → R (meet a x x′) (meet b y y′)
@@ -54,20 +37,36 @@ module _ {A B : Type 0} (R : A → B → Type 0) (a : Algebra A) (b : Algebra B)
     met-kept h h′ j lo n =
         meet-kept (meet-kept (point-kept j) (h′ j)) (fold-kept _ _ (λ x y x′ y′. meet-kept) (k .top) lo n (λ i. k .join (k .neg (point-kept i)) (h i)))
 
-    -- a subformula's value, from related values of those that it names
-    pub meaning-kept : (p : ℕ → ℕ → A) (q : ℕ → ℕ → B) (φ : Formula) → Operands (λ i. (t : ℕ) → R (p i t) (q i t)) φ → (t : ℕ) → R (meaning a v p φ t) (meaning b w q φ t)
+    combined-kept : (m : Binary) {α α′ : ℕ → A} {β β′ : ℕ → B} → ((t : ℕ) → R (α t) (β t)) → ((t : ℕ) → R (α′ t) (β′ t)) → (t : ℕ)
+        → R (combined a v m α α′ t) (combined b w m β β′ t)
     unfolding since until
-    meaning-kept p q True h t = k .top
-    meaning-kept p q (Proposition m) h t = s .proposition m t
-    meaning-kept p q (Not i) h t = k .neg (h t)
-    meaning-kept p q (Or i j) h t = k .join (h .0 t) (h .1 t)
-    meaning-kept p q (Since i j lower upper) h t = fold-kept _ _ (λ x y x′ y′. k .join) (k .bottom) (since-start upper t) (since-count lower upper t) (λ m. met-kept (h .0) (h .1) m (after-start m) (after-count m t))
-    meaning-kept p q (Until i j lower upper) h t = fold-kept _ _ (λ x y x′ y′. k .join) (k .bottom) (until-start lower t) (until-count lower upper) (λ m. met-kept (h .0) (h .1) m (before-start t) (before-count m t))
+    combined-kept either h h′ t = k .join (h t) (h′ t)
+    combined-kept (back lower upper) h h′ t = fold-kept _ _ (λ x y x′ y′. k .join) (k .bottom) (since-start upper t) (since-count lower upper t) (λ j. met-kept h h′ j (after-start j) (after-count j t))
+    combined-kept (ahead lower upper) h h′ t = fold-kept _ _ (λ x y x′ y′. k .join) (k .bottom) (until-start lower t) (until-count lower upper) (λ j. met-kept h h′ j (before-start t) (before-count j t))
+
+    -- an expression's value from related values of its parts
+    module _ (p : ℕ → ℕ → A) (q : ℕ → ℕ → B) where
+      abbrev Kept-meaning : Expression → Expression → Type 0
+      Kept-meaning x y = (t : ℕ) → R (meaning a v p x t) (meaning b w q y t)
+
+      pub not-kept : (x y : Expression) → Kept-meaning x y → Kept-meaning (not′ x) (not′ y)
+      not-kept x y h t = s .shown t (k .neg (h t))
+
+      pub binary-kept : (m : Binary) (x x′ y y′ : Expression) → Kept-meaning x y → Kept-meaning x′ y′ → Kept-meaning (binary m x x′) (binary m y y′)
+      binary-kept m x x′ y y′ h h′ t = s .shown t (combined-kept m h h′ t)
+
+      -- and so of its leaves
+      pub meaning-kept : (x : Expression) → Leaves (λ i. (t : ℕ) → R (p i t) (q i t)) x → Kept-meaning x x
+      meaning-kept (operand i) h t = h t
+      meaning-kept true′ h t = s .shown t (k .top)
+      meaning-kept (proposition′ m) h t = s .proposition m t
+      meaning-kept (not′ x) h t = not-kept x x (meaning-kept x h) t
+      meaning-kept (binary m x y) h t = binary-kept m x y x y (meaning-kept x (h .0)) (meaning-kept y (h .1)) t
 
     deep-kept : (line : ℕ → Formula) (d i t : ℕ) → R (deep a v line d i t) (deep b w line d i t)
     unfolding deep
     deep-kept line zero i t = k .bottom
-    deep-kept line (suc d) i t = s .shown t (meaning-kept _ _ (line i) (operands-all (line i) (deep-kept line d)) t)
+    deep-kept line (suc d) i t = meaning-kept _ _ (abbreviation (line i)) (leaves-all (abbreviation (line i)) (deep-kept line d)) t
 
     pub reading-kept : (line : ℕ → Formula) (i t : ℕ) → R (reading a v line i t) (reading b w line i t)
     unfolding reading

@@ -21,4 +21,32 @@ pub enum Formula {
         lower: u16,
         upper: u16,
     },
+    // (02, request 6) both
+    And(u8, u8),
+    // the left one implies the right one
+    Implies(u8, u8),
+    // at some time point of the interval, back from the minute
+    Once {
+        operand: u8,
+        lower: u16,
+        upper: u16,
+    },
+    // at every one
+    Historically {
+        operand: u8,
+        lower: u16,
+        upper: u16,
+    },
+    // at some time point of the interval, ahead of the minute
+    Eventually {
+        operand: u8,
+        lower: u16,
+        upper: u16,
+    },
+    // at every one
+    Always {
+        operand: u8,
+        lower: u16,
+        upper: u16,
+    },
 }

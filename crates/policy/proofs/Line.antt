@@ -1,13 +1,15 @@
 -- What a line's tests say, kind by kind. Assumes nothing.
-use mathlib.Core.Path.{_≡_, refl, sym, _∙_}
+use mathlib.Core.Path.{_≡_, sym, ap, _∙_}
 use mathlib.Core.Bool.{Bool, true, false, not, _&&_}
-use Prim.Native.Nat.{ℕ, zero, suc, _+_, _-_, _≤_, _<_}
+use Prim.Native.Nat.{ℕ, _+_, _-_, _≤_, _<_}
 use native.Mathlib.Omega.{arith}
 use borrow.Author.Tests.{not-true, not-false, lt-leb, le-leb}
 use native.Mathlib.Decide.{decLe}
 use Rattle.mtl.specs.declared.Formula.the-variants as F
 use lib.Dec.{leb}
-use Rattle.policy.specs.Format.{meaning}
+use lib.ListN.{List·getD-eq-default}
+use Rattle.policy.specs.declared.Fields.{Fields}
+use Rattle.policy.specs.Format.{meanings, meaning, formula-of}
 
 -- n bytes from a place on
 pub fits : (at n length : ℕ) → at ≤ length → leb n (length - at) ≡ leb (at + n) length
@@ -27,12 +29,16 @@ failed e f = sym e ∙ not-true _ f
 pub both : {a b c d : Bool} → a ≡ b → c ≡ d → (a && c) ≡ (b && d)
 both p q = rw (p, q)
 
+-- what a line of this kind means
+pub means : (f : Fields) (k : ℕ) → f .kind ≡ k → meaning k (f .first) (f .second) (f .lower) (f .upper) ≡ formula-of f
+unfolding formula-of
+means f k e = ap (λ (n : ℕ). meaning n (f .first) (f .second) (f .lower) (f .upper)) (sym e)
+
+-- none of four kinds is a later one
+pub later : (n k : ℕ) → n ≤ k → (k ≡ n → ⊥) → (k ≡ n + 1 → ⊥) → (k ≡ n + 2 → ⊥) → (k ≡ n + 3 → ⊥) → n + 4 ≤ k
+later n k h a b c d = omega arith
+
 -- the last kind
-pub is-until : (kind a b lower upper : ℕ) → 4 < kind → meaning kind a b lower upper ≡ F.Until a b lower upper
-unfolding meaning
-is-until zero a b l u h = absurd (omega arith)
-is-until (suc zero) a b l u h = absurd (omega arith)
-is-until (suc (suc zero)) a b l u h = absurd (omega arith)
-is-until (suc (suc (suc zero))) a b l u h = absurd (omega arith)
-is-until (suc (suc (suc (suc zero)))) a b l u h = absurd (omega arith)
-is-until (suc (suc (suc (suc (suc k))))) a b l u h = refl
+pub is-always : (f : Fields) → 10 < f .kind → F.Always (f .first) (f .lower) (f .upper) ≡ formula-of f
+unfolding formula-of meaning
+is-always f h = let past : 11 ≤ f .kind = omega arith in sym (List·getD-eq-default (meanings (f .first) (f .second) (f .lower) (f .upper)) _ past)

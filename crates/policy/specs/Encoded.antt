@@ -46,6 +46,13 @@ pub data Is-line (propositions i : ℕ) : ℕ → ℕ → ℕ → ℕ → ℕ �
   is-or : (a b : ℕ) → a < i → b < i → Is-line propositions i 3 a b 0 0 (F.Or a b)
   is-since : (a b lower upper : ℕ) → a < i → b < i → lower ≤ upper → upper ≤ 1023 → Is-line propositions i 4 a b lower upper (F.Since a b lower upper)
   is-until : (a b lower upper : ℕ) → a < i → b < i → lower ≤ upper → upper ≤ 1023 → Is-line propositions i 5 a b lower upper (F.Until a b lower upper)
+  -- 02, request 6: "Six and seven take first and second; the rest take first, lower, upper; operands are earlier lines"
+  is-and : (a b : ℕ) → a < i → b < i → Is-line propositions i 6 a b 0 0 (F.And a b)
+  is-implies : (a b : ℕ) → a < i → b < i → Is-line propositions i 7 a b 0 0 (F.Implies a b)
+  is-once : (a lower upper : ℕ) → a < i → lower ≤ upper → upper ≤ 1023 → Is-line propositions i 8 a 0 lower upper (F.Once a lower upper)
+  is-historically : (a lower upper : ℕ) → a < i → lower ≤ upper → upper ≤ 1023 → Is-line propositions i 9 a 0 lower upper (F.Historically a lower upper)
+  is-eventually : (a lower upper : ℕ) → a < i → lower ≤ upper → upper ≤ 1023 → Is-line propositions i 10 a 0 lower upper (F.Eventually a lower upper)
+  is-always : (a lower upper : ℕ) → a < i → lower ≤ upper → upper ≤ 1023 → Is-line propositions i 11 a 0 lower upper (F.Always a lower upper)
 
 -- a line's numbers, whether it is a rule, and its meaning
 pub record Line : Type 0 where

@@ -41,22 +41,34 @@ fields-at s at =
     }
 
 -- The table of kinds, a row a kind: which of first, second, lower and upper it allows, and what its operands are. "Mark number first"; "for
--- kinds 2 to 5, operands are numbers of earlier lines"
+-- kinds 2 to 5, operands are numbers of earlier lines". 02, request 6: "Six and seven take first and second; the rest take first, lower, upper;
+-- operands are earlier lines"
 abbrev row : Bool → Bool → Bool → Bool → Operands → Kind
 row first second lower upper operands = record { first = first; second = second; lower = lower; upper = upper; operands = operands }
 
+abbrev constant : Kind
+constant = row false false false false Nothing
+
+abbrev atom : Kind
+atom = row true false false false Proposition
+
+abbrev unary : Kind
+unary = row true false false false Line
+
+abbrev binary : Kind
+binary = row true true false false TwoLines
+
+abbrev temporal : Kind
+temporal = row true true true true TwoLines
+
+abbrev window : Kind
+window = row true false true true Line
+
 abbrev pub kinds : List Kind
-kinds =
-    row false false false false Nothing
-    ∷ row true false false false Proposition
-    ∷ row true false false false Line
-    ∷ row true true false false TwoLines
-    ∷ row true true true true TwoLines
-    ∷ row true true true true TwoLines
-    ∷ []
+kinds = constant ∷ atom ∷ unary ∷ binary ∷ temporal ∷ temporal ∷ binary ∷ binary ∷ window ∷ window ∷ window ∷ window ∷ []
 
 abbrev pub kind-of : ℕ → Kind
-kind-of k = getD kinds k (row false false false false Nothing)
+kind-of k = getD kinds k constant
 
 -- the map names only fields that the kind allows
 abbrev pub allowed : Kind → ℕ → Bool
@@ -88,14 +100,24 @@ good-line propositions line f =
     && (leb (f .lower) (f .upper)
     && leb (f .upper) 1023)))))))
 
--- the table's middle column: what a line of this kind means, with its first, second, lower and upper
+-- the table's middle column: what a line of each kind but the last means, with its first, second, lower and upper
+abbrev pub meanings : ℕ → ℕ → ℕ → ℕ → List Formula
+meanings a b lower upper =
+    F.True
+    ∷ F.Proposition a
+    ∷ F.Not a
+    ∷ F.Or a b
+    ∷ F.Since a b lower upper
+    ∷ F.Until a b lower upper
+    ∷ F.And a b
+    ∷ F.Implies a b
+    ∷ F.Once a lower upper
+    ∷ F.Historically a lower upper
+    ∷ F.Eventually a lower upper
+    ∷ []
+
 unfoldable pub meaning : ℕ → ℕ → ℕ → ℕ → ℕ → Formula
-meaning zero a b lower upper = F.True
-meaning (suc zero) a b lower upper = F.Proposition a
-meaning (suc (suc zero)) a b lower upper = F.Not a
-meaning (suc (suc (suc zero))) a b lower upper = F.Or a b
-meaning (suc (suc (suc (suc zero)))) a b lower upper = F.Since a b lower upper
-meaning (suc (suc (suc (suc (suc k))))) a b lower upper = F.Until a b lower upper
+meaning kind a b lower upper = getD (meanings a b lower upper) kind (F.Always a lower upper)
 
 unfoldable pub formula-of : Fields → Formula
 formula-of f = meaning (f .kind) (f .first) (f .second) (f .lower) (f .upper)

@@ -11,7 +11,7 @@ use Rattle.logic.specs.Bools.{both, pair}
 use Rattle.mtl.specs.declared.Formula.{Formula}
 use Rattle.mtl.specs.Syntax.{Operands, Proposes, Bounded}
 use Rattle.policy.specs.declared.Kind.{Kind}
-use Rattle.policy.specs.Encoded.{Is-line, is-true, is-proposition, is-not, is-or, is-since, is-until}
+use Rattle.policy.specs.Encoded.{Is-line, is-true, is-proposition, is-not, is-or, is-since, is-until, is-and, is-implies, is-once, is-historically, is-eventually, is-always}
 use Rattle.policy.specs.Format.{kinds, kind-of, operands-good, meaning}
 
 -- a field that the kind doesn't allow is 0
@@ -45,6 +45,32 @@ pub record Keeps (propositions i kind a b lower upper : ℕ) (x : Formula) : Typ
   pub means : x ≡ meaning kind a b lower upper
 
 module _ {m i : ℕ} where
+  -- kind 6 and above
+  from-six : (kind a b lower upper : ℕ) (x : Formula) → Keeps m i (suc (suc (suc (suc (suc (suc kind)))))) a b lower upper x
+      → Is-line m i (suc (suc (suc (suc (suc (suc kind)))))) a b lower upper x
+  unfolding meaning
+  from-six zero a b l u x k =
+      let z = are-zero (kind-of 6) a b l u (k .zero-else) in
+      let o = both (ltb a i) (ltb b i) (k .operands) in
+      rw (k .means, z .no-lower refl, z .no-upper refl) (is-and a b (ltb-true a i (o .0)) (ltb-true b i (o .1)))
+  from-six (suc zero) a b l u x k =
+      let z = are-zero (kind-of 7) a b l u (k .zero-else) in
+      let o = both (ltb a i) (ltb b i) (k .operands) in
+      rw (k .means, z .no-lower refl, z .no-upper refl) (is-implies a b (ltb-true a i (o .0)) (ltb-true b i (o .1)))
+  from-six (suc (suc zero)) a b l u x k =
+      let z = are-zero (kind-of 8) a b l u (k .zero-else) in
+      rw (k .means, z .no-second refl) (is-once a l u (ltb-true a i (k .operands)) (k .ordered) (k .bounded))
+  from-six (suc (suc (suc zero))) a b l u x k =
+      let z = are-zero (kind-of 9) a b l u (k .zero-else) in
+      rw (k .means, z .no-second refl) (is-historically a l u (ltb-true a i (k .operands)) (k .ordered) (k .bounded))
+  from-six (suc (suc (suc (suc zero)))) a b l u x k =
+      let z = are-zero (kind-of 10) a b l u (k .zero-else) in
+      rw (k .means, z .no-second refl) (is-eventually a l u (ltb-true a i (k .operands)) (k .ordered) (k .bounded))
+  from-six (suc (suc (suc (suc (suc zero))))) a b l u x k =
+      let z = are-zero (kind-of 11) a b l u (k .zero-else) in
+      rw (k .means, z .no-second refl) (is-always a l u (ltb-true a i (k .operands)) (k .ordered) (k .bounded))
+  from-six (suc (suc (suc (suc (suc (suc kind)))))) a b l u x k = absurd (omega (arith, k .known))
+
   pub is-a-line : (kind a b lower upper : ℕ) (x : Formula) → Keeps m i kind a b lower upper x → Is-line m i kind a b lower upper x
   unfolding meaning
   is-a-line zero a b l u x k =
@@ -66,7 +92,7 @@ module _ {m i : ℕ} where
   is-a-line (suc (suc (suc (suc (suc zero))))) a b l u x k =
       let o = both (ltb a i) (ltb b i) (k .operands) in
       rw (k .means) (is-until a b l u (ltb-true a i (o .0)) (ltb-true b i (o .1)) (k .ordered) (k .bounded))
-  is-a-line (suc (suc (suc (suc (suc (suc kind)))))) a b l u x k = absurd (omega (arith, k .known))
+  is-a-line (suc (suc (suc (suc (suc (suc kind)))))) a b l u x k = from-six kind a b l u x k
 
   pub keeps : (kind a b lower upper : ℕ) (x : Formula) → Is-line m i kind a b lower upper x → Keeps m i kind a b lower upper x
   unfolding meaning
@@ -82,6 +108,18 @@ module _ {m i : ℕ} where
       record { known = omega arith; zero-else = refl; operands = pair (lt-ltb _ _ h) (lt-ltb _ _ g); ordered = o; bounded = v; means = refl }
   keeps kind a b l u x (is-until _ _ _ _ h g o v) =
       record { known = omega arith; zero-else = refl; operands = pair (lt-ltb _ _ h) (lt-ltb _ _ g); ordered = o; bounded = v; means = refl }
+  keeps kind a b l u x (is-and _ _ h g) =
+      record { known = omega arith; zero-else = refl; operands = pair (lt-ltb _ _ h) (lt-ltb _ _ g); ordered = omega arith; bounded = omega arith; means = refl }
+  keeps kind a b l u x (is-implies _ _ h g) =
+      record { known = omega arith; zero-else = refl; operands = pair (lt-ltb _ _ h) (lt-ltb _ _ g); ordered = omega arith; bounded = omega arith; means = refl }
+  keeps kind a b l u x (is-once _ _ _ h o v) =
+      record { known = omega arith; zero-else = refl; operands = lt-ltb _ _ h; ordered = o; bounded = v; means = refl }
+  keeps kind a b l u x (is-historically _ _ _ h o v) =
+      record { known = omega arith; zero-else = refl; operands = lt-ltb _ _ h; ordered = o; bounded = v; means = refl }
+  keeps kind a b l u x (is-eventually _ _ _ h o v) =
+      record { known = omega arith; zero-else = refl; operands = lt-ltb _ _ h; ordered = o; bounded = v; means = refl }
+  keeps kind a b l u x (is-always _ _ _ h o v) =
+      record { known = omega arith; zero-else = refl; operands = lt-ltb _ _ h; ordered = o; bounded = v; means = refl }
 
 -- ---- what a line of 01 may mean
 
@@ -93,6 +131,12 @@ module _ {propositions i : ℕ} where
   earlier-operands k a b l u x (is-or _ _ h g) = (h, g)
   earlier-operands k a b l u x (is-since _ _ _ _ h g o v) = (h, g)
   earlier-operands k a b l u x (is-until _ _ _ _ h g o v) = (h, g)
+  earlier-operands k a b l u x (is-and _ _ h g) = (h, g)
+  earlier-operands k a b l u x (is-implies _ _ h g) = (h, g)
+  earlier-operands k a b l u x (is-once _ _ _ h o v) = (tt, h)
+  earlier-operands k a b l u x (is-historically _ _ _ h o v) = (tt, h)
+  earlier-operands k a b l u x (is-eventually _ _ _ h o v) = (tt, h)
+  earlier-operands k a b l u x (is-always _ _ _ h o v) = (tt, h)
 
   pub its-proposition : (k a b l u : ℕ) (x : Formula) → Is-line propositions i k a b l u x → Proposes propositions x
   its-proposition k a b l u x is-true = tt
@@ -101,6 +145,12 @@ module _ {propositions i : ℕ} where
   its-proposition k a b l u x (is-or _ _ h g) = tt
   its-proposition k a b l u x (is-since _ _ _ _ h g o v) = tt
   its-proposition k a b l u x (is-until _ _ _ _ h g o v) = tt
+  its-proposition k a b l u x (is-and _ _ h g) = tt
+  its-proposition k a b l u x (is-implies _ _ h g) = tt
+  its-proposition k a b l u x (is-once _ _ _ h o v) = tt
+  its-proposition k a b l u x (is-historically _ _ _ h o v) = tt
+  its-proposition k a b l u x (is-eventually _ _ _ h o v) = tt
+  its-proposition k a b l u x (is-always _ _ _ h o v) = tt
 
   pub its-interval : (k a b l u : ℕ) (x : Formula) → Is-line propositions i k a b l u x → Bounded 1023 x
   its-interval k a b l u x is-true = tt
@@ -109,3 +159,9 @@ module _ {propositions i : ℕ} where
   its-interval k a b l u x (is-or _ _ h g) = tt
   its-interval k a b l u x (is-since _ _ _ _ h g o v) = (o, v)
   its-interval k a b l u x (is-until _ _ _ _ h g o v) = (o, v)
+  its-interval k a b l u x (is-and _ _ h g) = tt
+  its-interval k a b l u x (is-implies _ _ h g) = tt
+  its-interval k a b l u x (is-once _ _ _ h o v) = (o, v)
+  its-interval k a b l u x (is-historically _ _ _ h o v) = (o, v)
+  its-interval k a b l u x (is-eventually _ _ _ h o v) = (o, v)
+  its-interval k a b l u x (is-always _ _ _ h o v) = (o, v)

@@ -16,7 +16,7 @@ use Rattle.mtl.specs.declared.Formula.{Formula}
 use Rattle.refusal.specs.declared.Answer.the-variants.{Accepted}
 use Rattle.policy.specs.declared.LineNumbers.{LineNumbers}
 use Rattle.policy.specs.declared.PolicyNumbers.{PolicyNumbers}
-use Rattle.policy.specs.Encoded.{Is-line, is-true, is-proposition, is-not, is-or, is-since, is-until, Line, widths, Line-at, rules-in, Is-policy, Rules-in}
+use Rattle.policy.specs.Encoded.{Is-line, is-true, is-proposition, is-not, is-or, is-since, is-until, is-and, is-implies, is-once, is-historically, is-eventually, is-always, Line, widths, Line-at, rules-in, Is-policy, Rules-in}
 use Rattle.policy.specs.Format.{count-of, meaning, no-line, answer-of, policy-of}
 use Rattle.policy.specs.Kinds.{keeps}
 use Rattle.policy.specs.Reads.{accepts, reads}
@@ -52,6 +52,12 @@ formula-back (is-not a h) r = refl
 formula-back (is-or a b h g) r = refl
 formula-back (is-since a b l u h g o v) r = refl
 formula-back (is-until a b l u h g o v) r = refl
+formula-back (is-and a b h g) r = refl
+formula-back (is-implies a b h g) r = refl
+formula-back (is-once a l u h o v) r = refl
+formula-back (is-historically a l u h o v) r = refl
+formula-back (is-eventually a l u h o v) r = refl
+formula-back (is-always a l u h o v) r = refl
 
 -- the numbers of a line fit their fields
 fit : {m i k a b l u : ℕ} {x : Formula} → m ≤ 32 → i < 64 → Is-line m i k a b l u x → (k < 256) × (a < 256) × (b < 256) × (l < 65536) × (u < 65536)
@@ -61,6 +67,12 @@ fit m i (is-not a h) = omega arith
 fit m i (is-or a b h g) = omega arith
 fit m i (is-since a b l u h g o v) = omega arith
 fit m i (is-until a b l u h g o v) = omega arith
+fit m i (is-and a b h g) = omega arith
+fit m i (is-implies a b h g) = omega arith
+fit m i (is-once a l u h o v) = omega arith
+fit m i (is-historically a l u h o v) = omega arith
+fit m i (is-eventually a l u h o v) = omega arith
+fit m i (is-always a l u h o v) = omega arith
 
 holds : {m i : ℕ} {x : Formula} (l : LineNumbers) → m ≤ 32 → i < 64 → Is-line m i (l .kind) (l .first) (l .second) (l .lower) (l .upper) x
     → Holds widths (field-of l)
@@ -155,6 +167,12 @@ line-short i (is-not a h) = omega (arith, room-least i, takes-most a 1)
 line-short i (is-or a b h g) = omega (arith, operand-room i a b h g)
 line-short i (is-since a b l u h g o v) = omega (arith, operand-room i a b h g, takes-most l 2, takes-most u 2)
 line-short i (is-until a b l u h g o v) = omega (arith, operand-room i a b h g, takes-most l 2, takes-most u 2)
+line-short i (is-and a b h g) = omega (arith, operand-room i a b h g)
+line-short i (is-implies a b h g) = omega (arith, operand-room i a b h g)
+line-short i (is-once a l u h o v) = omega (arith, operand-room i a a h h, takes-most l 2, takes-most u 2)
+line-short i (is-historically a l u h o v) = omega (arith, operand-room i a a h h, takes-most l 2, takes-most u 2)
+line-short i (is-eventually a l u h o v) = omega (arith, operand-room i a a h h, takes-most l 2, takes-most u 2)
+line-short i (is-always a l u h o v) = omega (arith, operand-room i a a h h, takes-most l 2, takes-most u 2)
 
 -- the most bytes of n lines
 abbrev rooms : ℕ → ℕ

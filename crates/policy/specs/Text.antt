@@ -45,6 +45,12 @@ formula-numbers (F.Not a) = numbered 2 a 0 0 0
 formula-numbers (F.Or a b) = numbered 3 a b 0 0
 formula-numbers (F.Since a b lower upper) = numbered 4 a b lower upper
 formula-numbers (F.Until a b lower upper) = numbered 5 a b lower upper
+formula-numbers (F.And a b) = numbered 6 a b 0 0
+formula-numbers (F.Implies a b) = numbered 7 a b 0 0
+formula-numbers (F.Once a lower upper) = numbered 8 a 0 lower upper
+formula-numbers (F.Historically a lower upper) = numbered 9 a 0 lower upper
+formula-numbers (F.Eventually a lower upper) = numbered 10 a 0 lower upper
+formula-numbers (F.Always a lower upper) = numbered 11 a 0 lower upper
 
 abbrev pub line-numbers : Subformula → LineNumbers
 line-numbers x = formula-numbers (x .formula) (x .rule)

@@ -60,7 +60,7 @@ const IS_RULE: u8 = 32;
 
 const SPARE: u8 = 64;
 
-// The kinds of a line, but for the last, until.
+// The kinds of a line, but for the last, always.
 const TRUE: u8 = 0;
 
 const PROPOSITION: u8 = 1;
@@ -70,6 +70,18 @@ const NOT: u8 = 2;
 const OR: u8 = 3;
 
 const SINCE: u8 = 4;
+
+const UNTIL: u8 = 5;
+
+const AND: u8 = 6;
+
+const IMPLIES: u8 = 7;
+
+const ONCE: u8 = 8;
+
+const HISTORICALLY: u8 = 9;
+
+const EVENTUALLY: u8 = 10;
 
 // How many propositions (01: marks), components (01: stations) and minutes a trace has.
 pub struct Sizes {
@@ -191,8 +203,30 @@ const TEMPORAL: Kind = Kind {
     operands: Operands::TwoLines,
 };
 
-// The table of kinds, a row a kind: true, proposition, not, or, since, until.
-const KINDS: [Kind; 6] = [CONSTANT, ATOM, UNARY, BINARY, TEMPORAL, TEMPORAL];
+// The row of a kind with one earlier line and an interval.
+const WINDOW: Kind = Kind {
+    first: true,
+    second: false,
+    lower: true,
+    upper: true,
+    operands: Operands::Line,
+};
+
+// The table of kinds, a row a kind; those from `and` on by 02, request 6.
+const KINDS: [Kind; 12] = [
+    CONSTANT, // true
+    ATOM, // proposition
+    UNARY, // not
+    BINARY, // or
+    TEMPORAL, // since
+    TEMPORAL, // until
+    BINARY, // and
+    BINARY, // implies
+    WINDOW, // once
+    WINDOW, // historically
+    WINDOW, // eventually
+    WINDOW, // always
+];
 
 // The lines read: the answer, and where it is Accepted the place after them, how many are rules, and the table.
 struct Scanned {
@@ -328,6 +362,40 @@ fn good_line(propositions: u8, line: usize, fields: Fields) -> bool
     (map < SPARE) & (kind & (first & (second & (lower & (upper & (row & (ordered & bounded)))))))
 }
 
+// The meaning of a line with one earlier line and an interval.
+fn window_of(fields: Fields) -> Formula
+    requires { ⌜ 7 < fields .kind ⌝ }
+    ensures { λ r. ⌜ r ≡ formula-of fields ⌝ }
+{
+    let kind = fields.kind;
+    if kind == ONCE {
+        return Formula::Once {
+            operand: fields.first,
+            lower: fields.lower,
+            upper: fields.upper,
+        };
+    }
+    if kind == HISTORICALLY {
+        return Formula::Historically {
+            operand: fields.first,
+            lower: fields.lower,
+            upper: fields.upper,
+        };
+    }
+    if kind == EVENTUALLY {
+        return Formula::Eventually {
+            operand: fields.first,
+            lower: fields.lower,
+            upper: fields.upper,
+        };
+    }
+    Formula::Always {
+        operand: fields.first,
+        lower: fields.lower,
+        upper: fields.upper,
+    }
+}
+
 // The meaning of a line.
 fn formula_of(fields: Fields) -> Formula
     ensures { λ r. ⌜ r ≡ formula-of fields ⌝ }
@@ -353,12 +421,21 @@ fn formula_of(fields: Fields) -> Formula
             upper: fields.upper,
         };
     }
-    Formula::Until {
-        left: fields.first,
-        right: fields.second,
-        lower: fields.lower,
-        upper: fields.upper,
+    if kind == UNTIL {
+        return Formula::Until {
+            left: fields.first,
+            right: fields.second,
+            lower: fields.lower,
+            upper: fields.upper,
+        };
     }
+    if kind == AND {
+        return Formula::And(fields.first, fields.second);
+    }
+    if kind == IMPLIES {
+        return Formula::Implies(fields.first, fields.second);
+    }
+    window_of(fields)
 }
 
 // The line's meaning, and whether it is a rule.

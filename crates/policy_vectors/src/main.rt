@@ -149,7 +149,7 @@ fn fields() {
     );
 }
 
-// The kinds, and those that are none.
+// The kinds.
 fn kinds() {
     case(b"kind 0", b"\x01\x01\x04\x00\x02\x00\x20");
     case(b"kind 1", b"\x01\x01\x04\x00\x02\x00\x21\x01");
@@ -157,8 +157,98 @@ fn kinds() {
     case(b"kind 3", b"\x01\x01\x04\x00\x02\x00\x21\x03");
     case(b"kind 4", b"\x01\x01\x04\x00\x02\x00\x21\x04");
     case(b"kind 5", b"\x01\x01\x04\x00\x02\x00\x21\x05");
+}
+
+// Those of request 6 (02), and those that are none.
+fn newer_kinds() {
     case(b"kind 6", b"\x01\x01\x04\x00\x02\x00\x21\x06");
+    case(b"kind 7", b"\x01\x01\x04\x00\x02\x00\x21\x07");
+    case(b"kind 8", b"\x01\x01\x04\x00\x02\x00\x21\x08");
+    case(b"kind 9", b"\x01\x01\x04\x00\x02\x00\x21\x09");
+    case(b"kind 10", b"\x01\x01\x04\x00\x02\x00\x21\x0a");
+    case(b"kind 11", b"\x01\x01\x04\x00\x02\x00\x21\x0b");
+    case(b"kind 12", b"\x01\x01\x04\x00\x02\x00\x21\x0c");
     case(b"kind 255", b"\x01\x01\x04\x00\x02\x00\x21\xff");
+}
+
+// A line of each kind, in order, with numbers of its own: 2 propositions, 3 components, 258 minutes, line 4 a rule.
+fn every_kind() {
+    case(
+        b"every kind",
+        b"\x02\x03\x02\x01\x0c\x00\x03\x01\x01\x03\x02\x01\x07\x03\x01\x02\
+          \x3f\x04\x01\x02\x01\x00\x02\x01\x1f\x05\x03\x04\x00\x01\xff\x03\x07\x06\x01\x02\x07\x07\x02\x01\
+          \x13\x08\x03\x02\x01\x1b\x09\x04\x01\x00\xff\x03\
+          \x1b\x0a\x05\x00\x01\x00\x01\x1b\x0b\x0a\x02\x00\x03\x00",
+    );
+}
+
+// Each field that a kind of request 6 does not allow.
+fn newer_fields() {
+    case(
+        b"and with lower",
+        b"\x01\x01\x04\x00\x02\x00\x39\x06\x01\x00\x01\x00",
+    );
+    case(
+        b"and with upper",
+        b"\x01\x01\x04\x00\x02\x00\x31\x06\x01\x00",
+    );
+    case(
+        b"implies with lower",
+        b"\x01\x01\x04\x00\x02\x00\x39\x07\x01\x00\x01\x00",
+    );
+    case(
+        b"implies with upper",
+        b"\x01\x01\x04\x00\x02\x00\x31\x07\x01\x00",
+    );
+    case(
+        b"once with second",
+        b"\x01\x01\x04\x00\x03\x00\x00\x25\x08\x01",
+    );
+    case(
+        b"historically with second",
+        b"\x01\x01\x04\x00\x03\x00\x00\x25\x09\x01",
+    );
+    case(
+        b"eventually with second",
+        b"\x01\x01\x04\x00\x03\x00\x00\x25\x0a\x01",
+    );
+    case(
+        b"always with second",
+        b"\x01\x01\x04\x00\x03\x00\x00\x25\x0b\x01",
+    );
+}
+
+// Their operands at their own line, and lower and upper.
+fn newer_bounds() {
+    case(
+        b"and, first itself",
+        b"\x01\x01\x04\x00\x02\x00\x23\x06\x01",
+    );
+    case(
+        b"implies, second itself",
+        b"\x01\x01\x04\x00\x02\x00\x25\x07\x01",
+    );
+    case(b"once of itself", b"\x01\x01\x04\x00\x02\x00\x23\x08\x01");
+    case(
+        b"historically, lower at upper",
+        b"\x01\x01\x04\x00\x02\x00\x39\x09\x02\x00\x02\x00",
+    );
+    case(
+        b"historically, lower above upper",
+        b"\x01\x01\x04\x00\x02\x00\x39\x09\x02\x00\x01\x00",
+    );
+    case(
+        b"eventually, lower alone",
+        b"\x01\x01\x04\x00\x02\x00\x29\x0a\x01\x00",
+    );
+    case(
+        b"always, upper 1,023",
+        b"\x01\x01\x04\x00\x02\x00\x31\x0b\xff\x03",
+    );
+    case(
+        b"always, upper 1,024",
+        b"\x01\x01\x04\x00\x02\x00\x31\x0b\x00\x04",
+    );
 }
 
 // Operands at their own line, and a proposition at the number of propositions.
@@ -303,8 +393,12 @@ fn main() {
     zeros();
     fields();
     kinds();
+    newer_kinds();
+    every_kind();
     operands();
     intervals();
+    newer_fields();
+    newer_bounds();
     counts();
     longest();
 }

@@ -8,9 +8,9 @@ use Rattle.kleene.specs.Truth.{Truth, unknown, value-of, and3}
 use Rattle.kleene.specs.Rank.{rank-of}
 use Rattle.kleene.specs.Tests.{literal}
 use Rattle.valuation.specs.Rows.{Shows}
-use Rattle.valuation.specs.Indexes.{ranked}
+use Rattle.valuation.specs.Indexes.{ranked, begun}
 
-past : (l : List ℕ) (f : ℕ → Truth) → Shows l f → (i : ℕ) → length l ≤ i → f i ≡ unknown
+pub past : (l : List ℕ) (f : ℕ → Truth) → Shows l f → (i : ℕ) → length l ≤ i → f i ≡ unknown
 past l f S i h = sym (S i) ∙ ap value-of (List·getD-eq-default l 0 h)
 
 module _ (negated : Bool) (p l : List ℕ) (e f : ℕ → Truth) (P : Shows p e) (L : Shows l f) where
@@ -25,3 +25,8 @@ module _ (negated : Bool) (p l : List ℕ) (e f : ℕ → Truth) (P : Shows p e)
       go : (b : Bool) → rank-of (and3 unknown (literal b unknown)) ≡ 1
       go true = refl
       go false = refl
+
+-- what is sought, the operand or its not, begins where the operand's rank says so
+pub sought-at : (negated : Bool) (e f g : ℕ → Truth) → ((s : ℕ) → g s ≡ literal negated (f s)) → (j : ℕ) → ranked negated e f j ≡ begun e g j
+unfolding ranked
+sought-at negated e f g h j = ap (λ (y : Truth). rank-of (and3 (e j) y)) (sym (h j))

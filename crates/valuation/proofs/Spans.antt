@@ -1,14 +1,15 @@
 -- Since and until are one notion: going back from t, or forward from it, something begins in an interval and nothing breaks off on the way. The
 -- last begin and the last break that are passed decide whether it reaches a threshold. Assumes nothing.
-use mathlib.Core.Path.{_≡_, refl, sym, subst}
+use mathlib.Core.Path.{_≡_, refl, sym, ap, subst}
 use mathlib.Core.Bool.{Bool, true, false, not, _&&_}
 use mathlib.Core.Logic.{_↔_, ⊎-elim}
 use Prim.Native.Nat.{ℕ, suc, _+_, _-_, _≤_, _<_}
 use native.Mathlib.Omega.{arith}
 use lib.Dec.{ltb, leb}
 use borrow.Author.Tests.{le-leb, lt-leb}
-use Rattle.kleene.specs.Truth.{Truth, not3}
+use Rattle.kleene.specs.Truth.{Truth, unknown, true3, not3}
 use Rattle.kleene.specs.Rank.{rank-of, rank-le, rank-or, rank-and, rank-not}
+use Rattle.kleene.specs.Tests.{literal}
 use Rattle.rows.specs.Laws.{lt-or-le}
 use Rattle.decide.specs.Decide.{Decides}
 use Rattle.decide.specs.Laws.{fails, same, less, most, both, none}
@@ -61,6 +62,24 @@ module _ (k lo n m begin stop : ℕ) (f g : ℕ → ℕ) (x : Truth) (R : Reache
   decided : (b : Bool) → Decides b ((lo < begin) × (stop ≤ begin)) → b ≡ leb k (rank-of x)
   decided true d = let h = d .sound refl in sym (le-leb k (rank-of x) (reached (h .0) (h .1)))
   decided false d = sym (lt-leb k (rank-of x) (missed (λ p q. fails d refl (p, q))))
+
+-- with nothing that breaks off what begins, the index of the begin alone decides
+module _ (k lo n m begin : ℕ) (f g : ℕ → ℕ) (x : Truth) (R : Reaches k f g lo n m x) (A : Last k f n begin)
+    (free : (j : ℕ) → k ≤ f j → (s : ℕ) → j < s → s < m → g s < 3 - k) where
+  begun-in : lo < begin → k ≤ rank-of x
+  begun-in p =
+      let i = begin - 1 in
+      let in-range : begin ≤ n = A .within in
+      let h = A .there i (omega arith) in
+      R .some i (omega arith) (omega arith) h (free i h)
+
+  begun-out : begin ≤ lo → rank-of x < k
+  begun-out p = R .only (λ j a b c d. let z : ⊥ = omega (arith, A .after j (omega arith) b) in z)
+
+  begun-decides : (b : Bool) → Decides b (lo < begin) → b ≡ leb k (rank-of x)
+  begun-decides true d = sym (le-leb k (rank-of x) (begun-in (d .sound refl)))
+  begun-decides false d =
+      sym (lt-leb k (rank-of x) (⊎-elim (λ (l : lo < begin). absurd (fails d refl l)) (λ (l : begin ≤ lo). begun-out l) (lt-or-le lo begin)))
 
 -- ---- minutes with time turned round
 
@@ -174,3 +193,33 @@ module _ (w : World Truth) (α β : ℕ → Truth) (k : ℕ) (pos : 0 < k) (smal
         decided k (far - 1 - end) _ _ (far - begin) (far - stop) (turned (begun e β)) (turned (broken e α)) (until three w α β lower upper t)
         (rw s (until-reaches lower upper t (rw s at near))) A B (not (ltb end begin) && not (ltb stop begin))
         (same (order .0) (order .1) (both (at-least end begin) (at-least stop begin)))
+
+    -- those of once and eventually: "true" stands on the left as far as m minutes go, and from there on e is unknown. What breaks off there then
+    -- does so where it may, and what begins there begins where it may, so that the first breaks off none of the second: that "true" is not true
+    -- there does no harm
+    module _ (m : ℕ) (held : (s : ℕ) → s < m → α s ≡ true3) where
+      unbroken : (s : ℕ) → s < m → broken e α s ≡ 0
+      unfolding ranked rank-of
+      unbroken s h = omega (arith, rank-and (e s) (not3 (α s)), rank-not (α s), ap rank-of (held s h))
+
+      pub once-test : (start : ℕ) → start ≡ t - upper → t < m → Last k (begun e β) (t + 1 - lower) begin
+          → not (leb begin start) ≡ leb k (rank-of (since three w α β lower upper t))
+      once-test start s l A =
+          begun-decides k start (t + 1 - lower) (t + 1) begin (begun e β) (broken e α) (since three w α β lower upper t) (rw s (since-reaches lower upper t)) A
+          (λ j h s a b. omega (arith, unbroken s (omega arith))) (not (leb begin start)) (above begin start)
+
+      module _ (dark : (s : ℕ) → m ≤ s → e s ≡ unknown) where
+        at-most-may : (negated : Bool) (f : ℕ → Truth) (s : ℕ) → m ≤ s → ranked negated e f s ≤ 1
+        unfolding ranked rank-of
+        at-most-may negated f s h = omega (arith, rank-and (e s) (literal negated (f s)), ap rank-of (dark s h))
+
+        free : (j : ℕ) → k ≤ begun e β j → (s : ℕ) → s ≤ j → broken e α s < 3 - k
+        free j h s l =
+            ⊎-elim (λ (a : s < m). omega (arith, unbroken s a)) (λ (a : m ≤ s). omega (arith, at-most-may true α s a, at-most-may false β j (omega arith))) (lt-or-le s m)
+
+        pub eventually-test : (end : ℕ) → end ≡ t + upper → end < far → Last k (turned (begun e β)) (far - (t + lower)) (far - begin)
+            → not (ltb end begin) ≡ leb k (rank-of (until three w α β lower upper t))
+        eventually-test end s near A =
+            begun-decides k (far - 1 - end) (far - (t + lower)) (far - t) (far - begin) (turned (begun e β)) (turned (broken e α)) (until three w α β lower upper t)
+            (rw s (until-reaches lower upper t (rw s at near))) A (λ i h j a b. free (far - 1 - i) h (far - 1 - j) (omega arith))
+            (not (ltb end begin)) (same (λ (h : begin ≤ end). omega arith) (λ h. omega arith) (at-least end begin))

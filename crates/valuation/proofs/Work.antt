@@ -4,28 +4,31 @@ use Prim.Native.Nat.{ℕ, _+_, _-_, _*_, _/_, _%_, _≤_, _<_}
 use native.Mathlib.Omega.{arith}
 use native.Mathlib.Decide.{decLt}
 use mathlib.Core.Path.{_≡_, refl, sym, ap, ap₂, subst, _∙_}
+use mathlib.Core.Bool.{true, false}
 use mathlib.Core.List.{List, _++_}
 use lib.ListN.{getD, length, take, drop, length-append, length-take, length-drop, List·getD-eq-default}
 use lib.Seq.{length-take-le, getD-take, getD-drop, drop-drop}
 use borrow.Author.Tests.{lt-ltb, le-ltb}
-use Rattle.kleene.specs.Truth.{Truth, unknown, code-of, value-of, value-of-code}
+use Rattle.kleene.specs.Truth.{Truth, unknown, true3, not3, or3, and3, code-of, value-of, value-of-code}
+use Rattle.kleene.specs.Tests.{implies-and}
 use Rattle.rows.specs.Over.{Over}
 use Rattle.rows.specs.Laws.{two}
 use Rattle.rows.specs.Grid.{row-of, place-of, next-row}
 use Rattle.rows.specs.Parts.{put-in}
 use Rattle.mtl.specs.Algebra.{three}
 use Rattle.mtl.specs.declared.Formula.{Formula}
-use Rattle.mtl.specs.declared.Formula.the-variants.{True, Proposition, Not, Or, Since, Until}
+use Rattle.mtl.specs.declared.Formula.the-variants.{True, Proposition, Not, Or, Since, Until, And, Implies, Once, Historically, Eventually, Always}
+use Rattle.mtl.specs.Abbreviations.{abbreviation, leaves-map}
 use Rattle.mtl.specs.Syntax.{Earlier, Proposes}
 use Rattle.mtl.specs.Reading.{point, seen, meaning}
-use Rattle.mtl.specs.Related.{operands-map}
-use Rattle.mtl.specs.Unroll.{unroll}
+use Rattle.mtl.specs.Unroll.{unroll, reading-past}
 use Rattle.policy.specs.declared.Sizes.{Sizes}
 use Rattle.policy.specs.declared.Policy.{Policy}
 use Rattle.policy.specs.Proper.{Proper, formula-at}
 use Rattle.knowledge.specs.Knowledge.{Knowledge, point-known, world}
 use Rattle.valuation.specs.Sheets.{value}
-use Rattle.valuation.specs.Rows.{Shows, Row, run, Rows, Points, Workable}
+use Rattle.valuation.proofs.Shown.{past}
+use Rattle.valuation.specs.Rows.{Shows, Row, run, Rows, Points, Unbroken, Based, Workable}
 
 -- ---- one row of several
 
@@ -36,6 +39,9 @@ module _ (m : ℕ) (l r : List ℕ) (i : ℕ) (here : r ≡ run m l i) (there : 
   pub run-shows : (v : ℕ → ℕ → Truth) → Rows m l v → Shows r (v i)
   run-shows v h = subst (λ (s : List ℕ). Shows s (v i)) (sym here) (h i there)
 
+  pub run-past : (v : ℕ → ℕ → Truth) → Rows m l v → (t : ℕ) → m ≤ t → v i t ≡ unknown
+  run-past v h t after = past r (v i) (run-shows v h) t (omega (arith, run-length))
+
 -- ---- the window
 
 module _ (z : Sizes) (k : Knowledge) where
@@ -44,6 +50,35 @@ module _ (z : Sizes) (k : Knowledge) where
 
   pub off-window : (t : ℕ) (x : Truth) → z .minutes ≤ t → seen (world z k) t x ≡ unknown
   off-window t x h = rw (le-ltb t (z .minutes) h, seen) refl
+
+  -- a row, as the window shows it
+  pub seen-row : (f : ℕ → Truth) (r : List ℕ) → Row (z .minutes) f r → Row (z .minutes) (λ t. seen (world z k) t (f t)) r
+  seen-row f r h t l = h t l ∙ ap code-of (sym (in-window t (f t) l))
+
+  -- an abbreviation's parts are lines of their own, seen as far as the window goes: at one minute, and row by row
+  pub and-row : (f g : ℕ → Truth) (r : List ℕ) → Row (z .minutes) (λ t. and3 (f t) (g t)) r
+      → Row (z .minutes) (λ t. let s = seen (world z k) t in s (not3 (s (or3 (s (not3 (f t))) (s (not3 (g t))))))) r
+  and-row f g r h t l =
+      h t l ∙ ap code-of (sym (in-window t _ l ∙ ap not3 (in-window t _ l ∙ ap₂ or3 (in-window t (not3 (f t)) l) (in-window t (not3 (g t)) l))))
+
+  pub implies-row : (f g : ℕ → Truth) (r : List ℕ) → Row (z .minutes) (λ t. not3 (and3 (f t) (not3 (g t)))) r
+      → Row (z .minutes) (λ t. let s = seen (world z k) t in s (or3 (s (not3 (f t))) (g t))) r
+  implies-row f g r h t l = h t l ∙ ap code-of (implies-and (f t) (g t) ∙ sym (in-window t _ l ∙ ap (λ (x : Truth). or3 x (g t)) (in-window t (not3 (f t)) l)))
+
+  pub not-seen-row : (f : ℕ → Truth) (r : List ℕ) → Row (z .minutes) (λ t. not3 (f t)) r
+      → Row (z .minutes) (λ t. let s = seen (world z k) t in s (not3 (s (f t)))) r
+  not-seen-row f r h t l = h t l ∙ ap code-of (sym (in-window t _ l ∙ ap not3 (in-window t (f t) l)))
+
+  pub true-left : (n : ℕ) (f : ℕ → Truth) → n ≡ z .minutes → Unbroken n false f (λ s. seen (world z k) s true3) f
+  true-left n f e = record { held = λ s h. in-window s true3 (omega arith); sought = λ s. refl }
+
+  pub not-right : (n : ℕ) (f : ℕ → Truth) → n ≡ z .minutes → ((t : ℕ) → z .minutes ≤ t → f t ≡ unknown)
+      → Unbroken n true f (λ s. seen (world z k) s true3) (λ s. seen (world z k) s (not3 (f s)))
+  not-right n f e o = record { held = λ s h. in-window s true3 (omega arith); sought = λ s. go s (decLt s (z .minutes)) }
+    where
+      go : (s : ℕ) → Dec (s < z .minutes) → seen (world z k) s (not3 (f s)) ≡ not3 (f s)
+      go s (yes w) = in-window s (not3 (f s)) w
+      go s (no w) = off-window s (not3 (f s)) (omega arith) ∙ sym (ap not3 (o s (omega arith)))
 
   -- a list that holds f's codes in the window, and is no longer
   pub shows : (l : List ℕ) (f : ℕ → Truth) → length l ≡ z .minutes → ((t : ℕ) → t < z .minutes → getD l t 0 ≡ code-of (f t))
@@ -71,7 +106,7 @@ cell-at p k i t h = ap₂ (λ (a b : ℕ). code-of (value p k a b)) (row-of (p .
 
 module _ (p : Policy) (k : Knowledge) (earlier : Earlier (formula-at p)) where
   pub value-off : (i t : ℕ) → p .sizes .minutes ≤ t → value p k i t ≡ unknown
-  value-off i t h = unroll three (world (p .sizes) k) (formula-at p) earlier i t ∙ off-window (p .sizes) k t _ h
+  value-off i t h = reading-past three (world (p .sizes) k) (formula-at p) i t (le-ltb t (p .sizes .minutes) h)
 
   -- the rows that are written show their subformulas' values
   pub rows-show : (end : ℕ) (old new : List ℕ) → end ≤ length new → Over (cell p k) 0 end old new
@@ -91,14 +126,27 @@ module _ (p : Policy) (k : Knowledge) (earlier : Earlier (formula-at p)) where
       (λ t w. value-off i t w)
 
   -- the row that was worked for subformula i holds its cells
-  pub row-cells : (i : ℕ) (r : List ℕ) → Row (p .sizes .minutes) (meaning three (world (p .sizes) k) (value p k) (formula-at p i)) r
+  pub row-cells : (i : ℕ) (r : List ℕ) → Row (p .sizes .minutes) (meaning three (world (p .sizes) k) (value p k) (abbreviation (formula-at p i))) r
       → (t : ℕ) → t < p .sizes .minutes → getD r t 0 ≡ cell p k (i * p .sizes .minutes + t)
   row-cells i r w t h =
       w t h
-      ∙ ap code-of (sym (unroll three (world (p .sizes) k) (formula-at p) earlier i t ∙ in-window (p .sizes) k t _ h))
+      ∙ ap code-of (sym (unroll three (world (p .sizes) k) (formula-at p) earlier i t))
       ∙ sym (cell-at p k i t h)
 
 -- ---- one row more
+
+-- what a newer kind needs of it
+pub based : {z : Sizes} {φ : Formula} {p f l : List ℕ} → Workable z φ p f l → Based z φ p l
+based w = record { minutes = w .minutes; points = w .points; operands = w .operands; bounded = w .bounded }
+
+-- the time points, as far as the window goes
+pub front : {z : Sizes} {φ : Formula} {p l : List ℕ} → Based z φ p l → length (take (z .minutes - 0) p) ≡ z .minutes
+front {z} {φ} {p} w = length-take-le (z .minutes - 0) p (omega (arith, w .minutes, w .points)) ∙ omega arith
+
+-- a row of the formula that this one is
+pub worked : (z : Sizes) (k : Knowledge) (v : ℕ → ℕ → Truth) (r : List ℕ) {φ ψ : Formula} → φ ≡ ψ
+    → Row (z .minutes) (meaning three (world z k) v (abbreviation ψ)) r → Row (z .minutes) (meaning three (world z k) v (abbreviation φ)) r
+worked z k v r e h = subst (λ (χ : Formula). Row (z .minutes) (meaning three (world z k) v (abbreviation χ)) r) (sym e) h
 
 proposes-more : (n most : ℕ) (φ : Formula) → n ≤ most → Proposes n φ → Proposes most φ
 proposes-more n most True l h = tt
@@ -107,6 +155,12 @@ proposes-more n most (Not i) l h = tt
 proposes-more n most (Or i j) l h = tt
 proposes-more n most (Since i j lower upper) l h = tt
 proposes-more n most (Until i j lower upper) l h = tt
+proposes-more n most (And i j) l h = tt
+proposes-more n most (Implies i j) l h = tt
+proposes-more n most (Once i lower upper) l h = tt
+proposes-more n most (Historically i lower upper) l h = tt
+proposes-more n most (Eventually i lower upper) l h = tt
+proposes-more n most (Always i lower upper) l h = tt
 
 -- the part that was lent, given back
 pub given-back : (at m : ℕ) (xs ys : List ℕ) → take at xs ++ (ys ++ drop (at + m) xs) ≡ take at xs ++ (ys ++ drop (at + m - at) (drop at xs))
@@ -128,14 +182,14 @@ module _ (p : Policy) (proper : Proper p) (i : ℕ) (under : i < p .count) where
         minutes = proper .minutes .high;
         points = a;
         facts = b;
-        operands = operands-map (formula-at p i) (λ j h. rw e (next-row i (p .sizes .minutes) j h)) (proper .earlier i);
+        operands = leaves-map (abbreviation (formula-at p i)) (λ j h. rw e (next-row i (p .sizes .minutes) j h)) (proper .earlier i);
         proposes = proposes-more (p .sizes .propositions) 32 (formula-at p i) (proper .propositions .high) (proper .proposes i);
         bounded = proper .bounded i;
       }
 
   pub next : (k : Knowledge) (at : ℕ) (old new row part run : List ℕ) → at ≡ i * p .sizes .minutes → p .count * p .sizes .minutes ≤ length new
       → Over (cell p k) 0 at old new
-      → Row (p .sizes .minutes) (meaning three (world (p .sizes) k) (value p k) (formula-at p i)) row
+      → Row (p .sizes .minutes) (meaning three (world (p .sizes) k) (value p k) (abbreviation (formula-at p i))) row
       → part ≡ take (p .sizes .minutes) (drop at new)
       → Over (λ t. getD row t 0) 0 (length part) part run
       → Over (cell p k) 0 (at + p .sizes .minutes) old (take at new ++ (run ++ drop (at + p .sizes .minutes) new))

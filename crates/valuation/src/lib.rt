@@ -13,15 +13,17 @@ ghost use mathlib.Core.List.{_++_};
 ghost use Prim.Native.Nat.{ℕ, _+_, _-_, _*_, _≤_, _<_};
 ghost use lib.ListN.{length, getD, take, drop};
 ghost use lib.Dec.{leb};
-ghost use Rattle.kleene.specs.Truth.{Truth, code-of, true3, not3, or3};
+ghost use Rattle.kleene.specs.Truth.{Truth, code-of, unknown, true3, not3, or3, and3};
 ghost use Rattle.kleene.specs.Rank.{rank-of};
+ghost use Rattle.kleene.specs.Tests.{literal};
 ghost use Rattle.rows.specs.Over.{Over};
 ghost use Rattle.mtl.specs.Algebra.{three};
+ghost use Rattle.mtl.specs.Abbreviations.{abbreviation};
 ghost use Rattle.mtl.specs.Reading.{World, point, since, until, meaning};
 ghost use Rattle.knowledge.specs.Knowledge.{Knowledge, fact, world};
 ghost use Rattle.policy.specs.Proper.{Proper};
 ghost use Rattle.valuation.specs.Sheets.{valuation-of, verdicts-of, standing};
-ghost use Rattle.valuation.specs.Rows.{most-minutes, most-bound, Shows, Row, run, Rows, Points, Workable};
+ghost use Rattle.valuation.specs.Rows.{most-minutes, most-bound, Shows, Row, run, Rows, Points, Unbroken, Newer, Based, Workable};
 ghost use Rattle.valuation.specs.Verdicts.{verdict-code, one-stands, Verdict-row};
 ghost use Rattle.valuation.specs.Indexes.{ranked, begun, broken, Ranks, moved, far, Lasts, Firsts};
 
@@ -64,6 +66,21 @@ fn code(sure: bool, may: bool) -> u8
         return UNKNOWN;
     }
     FALSE
+}
+
+// The code of such a value, or where it is negated of its not.
+fn signed_code(sure: bool, may: bool, negated: bool) -> u8
+    ensures { λ r. ⌜ ((x : Truth) → sure ≡ leb 2 (rank-of x) → may ≡ leb 1 (rank-of x) → r ≡ code-of (literal negated x)) ⌝ }
+{
+    let yes = kleene::known(!negated);
+    let no = kleene::known(negated);
+    if sure {
+        return yes;
+    }
+    if may {
+        return UNKNOWN;
+    }
+    no
 }
 
 // ---- where a since or until may begin and break off, for all minutes at once before they are passed one by one
@@ -215,6 +232,92 @@ pub fn until_row(
     }
 }
 
+// ---- once, historically, eventually and always (02, request 6)
+
+// The value of a once at a minute that is passed, whose interval starts here, or where it is negated of its not: a since that nothing breaks off.
+fn once_value(start: usize, begins: Nearest, negated: bool) -> u8
+    ensures { λ r. ⌜ ((w : World Truth) (τ β : ℕ → Truth) (lower upper t : ℕ) → start ≡ t - upper
+        → Lasts (begun (point three w) β) (t + 1 - lower) begins → ((s : ℕ) → s < t + 1 → τ s ≡ true3)
+        → r ≡ code-of (literal negated (since three w τ β lower upper t))) ⌝ }
+{
+    let sure = !(begins.sure <= start);
+    let may = !(begins.may <= start);
+    signed_code(sure, may, negated)
+}
+
+// The row of `once operand`, or negated of `historically operand`, which is not once not: a since with nothing that breaks off.
+pub fn once_row(
+    points: &[u8],
+    operand: &[u8],
+    negated: bool,
+    lower: usize,
+    upper: usize,
+    ranks: &mut [u8; MOST_MINUTES],
+    row: &mut [u8; MOST_MINUTES],
+)
+    requires { ⌜ (length (now points) ≤ most-minutes) × (length (now operand) ≡ length (now points))
+        × (length (now ranks) ≡ most-minutes) × (length (now row) ≡ most-minutes) ⌝ }
+    ensures { λ _. ⌜ (length (now (ranks .exit)) ≡ most-minutes) × (length (now (row .exit)) ≡ most-minutes)
+        × ((w : World Truth) (α τ β : ℕ → Truth) → Shows (now (points .entry)) (point three w) → Shows (now (operand .entry)) α
+        → Unbroken (length (now (points .entry))) negated α τ β
+        → Row (length (now (points .entry))) (λ t. literal negated (since three w τ β lower upper t)) (now (row .exit))) ⌝ }
+{
+    rank_row(points, operand, negated, ranks);
+    let mut begins = Nearest { sure: 0, may: 0 };
+    let mut start: usize = 0;
+    let mut t: usize = 0;
+    while t < points.len() {
+        begins = since_begin(ranks, lower, t, begins);
+        row[t] = once_value(start, begins, negated);
+        start = next_start(start, t, upper);
+        t += 1;
+    }
+}
+
+// The value of an eventually at a minute that is passed, whose interval ends here, or where it is negated of its not: an until that nothing breaks off.
+// From m on, the end of the minutes, everything is unknown: whatever breaks off there begins as little there.
+fn eventually_value(end: usize, begins: Nearest, negated: bool) -> u8
+    ensures { λ r. ⌜ ((w : World Truth) (τ β : ℕ → Truth) (lower upper t m : ℕ) → end ≡ t + upper → end < far
+        → Firsts (begun (point three w) β) (t + lower) begins → ((s : ℕ) → s < m → τ s ≡ true3)
+        → ((s : ℕ) → m ≤ s → point three w s ≡ unknown) → r ≡ code-of (literal negated (until three w τ β lower upper t))) ⌝ }
+{
+    let sure = !(end < begins.sure);
+    let may = !(end < begins.may);
+    signed_code(sure, may, negated)
+}
+
+// The row of `eventually operand`, or negated of `always operand`, which is not eventually not: an until with nothing that breaks off.
+pub fn eventually_row(
+    points: &[u8],
+    operand: &[u8],
+    negated: bool,
+    lower: usize,
+    upper: usize,
+    ranks: &mut [u8; MOST_MINUTES],
+    row: &mut [u8; MOST_MINUTES],
+)
+    requires { ⌜ (length (now points) ≤ most-minutes) × (length (now operand) ≡ length (now points))
+        × (lower ≤ most-bound) × (upper ≤ most-bound) × (length (now ranks) ≡ most-minutes) × (length (now row) ≡ most-minutes) ⌝ }
+    ensures { λ _. ⌜ (length (now (ranks .exit)) ≡ most-minutes) × (length (now (row .exit)) ≡ most-minutes)
+        × ((w : World Truth) (α τ β : ℕ → Truth) → Shows (now (points .entry)) (point three w) → Shows (now (operand .entry)) α
+        → Unbroken (length (now (points .entry))) negated α τ β
+        → Row (length (now (points .entry))) (λ t. literal negated (until three w τ β lower upper t)) (now (row .exit))) ⌝ }
+{
+    rank_row(points, operand, negated, ranks);
+    let mut t = points.len();
+    let past = t + lower;
+    let mut begins = Nearest {
+        sure: FAR,
+        may: past,
+    };
+    while 0 < t {
+        t -= 1;
+        let j = t + lower;
+        begins = note(begins, j, until_begin(ranks, points.len(), j));
+        row[t] = eventually_value(t + upper, begins, negated);
+    }
+}
+
 // ---- the other rows
 
 // The row of true.
@@ -291,6 +394,21 @@ pub fn or_row(left: &[u8], right: &[u8], row: &mut [u8; MOST_MINUTES])
     }
 }
 
+// The row of `left and right`, or negated of `left implies right`, which is not (left and not right).
+pub fn and_row(left: &[u8], right: &[u8], negated: bool, row: &mut [u8; MOST_MINUTES])
+    requires { ⌜ (length (now left) ≤ most-minutes) × (length (now right) ≡ length (now left)) × (length (now row) ≡ most-minutes) ⌝ }
+    ensures { λ _. ⌜ (length (now (row .exit)) ≡ most-minutes)
+        × ((f g : ℕ → Truth) → Shows (now (left .entry)) f → Shows (now (right .entry)) g
+        → Row (length (now (left .entry))) (λ t. literal negated (and3 (f t) (literal negated (g t)))) (now (row .exit))) ⌝ }
+{
+    let mut t: usize = 0;
+    while t < left.len() {
+        let rank = kleene::rank_of_and(left[t], right[t], negated);
+        row[t] = signed_code(SURE <= rank, MAY <= rank, negated);
+        t += 1;
+    }
+}
+
 // ---- the work sheet
 
 // Row i of those that stand one after another.
@@ -301,6 +419,98 @@ fn run_of(rows: &[u8], i: u8, minutes: usize) -> &[u8]
     let at = i as usize * minutes;
     let end = at + minutes;
     &rows[at..end]
+}
+
+// Works the row of a subformula of a newer kind (02, request 6) from the rows of earlier ones. Each kind's arm of `work_row` calls it, so that it
+// is compiled apart from the older rows, which so keep their code (docs/PERFORMANCE.md).
+fn work_abbreviation(
+    sizes: Sizes,
+    formula: Formula,
+    points: &[u8],
+    earlier: &[u8],
+    ranks: &mut [u8; MOST_MINUTES],
+    row: &mut [u8; MOST_MINUTES],
+)
+    requires { ⌜ Newer formula × Based sizes formula (now points) (now earlier)
+        × (length (now ranks) ≡ most-minutes) × (length (now row) ≡ most-minutes) ⌝ }
+    ensures { λ _. ⌜ (length (now (ranks .exit)) ≡ most-minutes) × (length (now (row .exit)) ≡ most-minutes)
+        × ((k : Knowledge) (v : ℕ → ℕ → Truth) → Points sizes k (now (points .entry)) → Rows (sizes .minutes) (now (earlier .entry)) v
+        → Row (sizes .minutes) (meaning three (world sizes k) v (abbreviation formula)) (now (row .exit))) ⌝ }
+{
+    let minutes = sizes.minutes;
+    match formula {
+        Formula::And(i, j) => and_row(
+            run_of(earlier, i, minutes),
+            run_of(earlier, j, minutes),
+            false,
+            row,
+        ),
+        Formula::Implies(i, j) => and_row(
+            run_of(earlier, i, minutes),
+            run_of(earlier, j, minutes),
+            true,
+            row,
+        ),
+        Formula::Once {
+            operand,
+            lower,
+            upper,
+        } => once_row(
+            &points[0..minutes],
+            run_of(earlier, operand, minutes),
+            false,
+            lower as usize,
+            upper as usize,
+            ranks,
+            row,
+        ),
+        Formula::Historically {
+            operand,
+            lower,
+            upper,
+        } => once_row(
+            &points[0..minutes],
+            run_of(earlier, operand, minutes),
+            true,
+            lower as usize,
+            upper as usize,
+            ranks,
+            row,
+        ),
+        Formula::Eventually {
+            operand,
+            lower,
+            upper,
+        } => eventually_row(
+            &points[0..minutes],
+            run_of(earlier, operand, minutes),
+            false,
+            lower as usize,
+            upper as usize,
+            ranks,
+            row,
+        ),
+        Formula::Always {
+            operand,
+            lower,
+            upper,
+        } => eventually_row(
+            &points[0..minutes],
+            run_of(earlier, operand, minutes),
+            true,
+            lower as usize,
+            upper as usize,
+            ranks,
+            row,
+        ),
+        // none of these is a newer kind
+        Formula::True => {}
+        Formula::Proposition(_) => {}
+        Formula::Not(_) => {}
+        Formula::Or(_, _) => {}
+        Formula::Since { .. } => {}
+        Formula::Until { .. } => {}
+    }
 }
 
 // Works the row of a subformula from the rows of earlier ones.
@@ -318,7 +528,7 @@ fn work_row(
     ensures { λ _. ⌜ (length (now (ranks .exit)) ≡ most-minutes) × (length (now (row .exit)) ≡ most-minutes)
         × ((k : Knowledge) (v : ℕ → ℕ → Truth) → k .facts ≡ now (facts .entry) → Points sizes k (now (points .entry))
         → Rows (sizes .minutes) (now (earlier .entry)) v
-        → Row (sizes .minutes) (meaning three (world sizes k) v formula) (now (row .exit))) ⌝ }
+        → Row (sizes .minutes) (meaning three (world sizes k) v (abbreviation formula)) (now (row .exit))) ⌝ }
 {
     let minutes = sizes.minutes;
     match formula {
@@ -358,6 +568,26 @@ fn work_row(
             ranks,
             row,
         ),
+        Formula::And(_, _) => work_abbreviation(sizes, formula, points, earlier, ranks, row),
+        Formula::Implies(_, _) => work_abbreviation(sizes, formula, points, earlier, ranks, row),
+        Formula::Once { .. } => work_abbreviation(sizes, formula, points, earlier, ranks, row),
+        Formula::Historically { .. } => work_abbreviation(
+            sizes,
+            formula,
+            points,
+            earlier,
+            ranks,
+            row,
+        ),
+        Formula::Eventually { .. } => work_abbreviation(
+            sizes,
+            formula,
+            points,
+            earlier,
+            ranks,
+            row,
+        ),
+        Formula::Always { .. } => work_abbreviation(sizes, formula, points, earlier, ranks, row),
     }
 }
 

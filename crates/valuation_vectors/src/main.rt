@@ -1,5 +1,6 @@
-// Rows of random policies over random knowledge, worked by `valuation` in one pass and, beside it, straight from the definition (01, "The
-// reading"), with windows of 0, 1, M - 1 and 1,023 minutes among the bounds. It prints for each batch how many cells differ.
+// Rows of the kinds of request 6 (02) that were worked out by hand. Then rows of random policies over random knowledge, worked by `valuation` in one
+// pass and, beside it, straight from the definition (01, "The reading", and 02's abbreviations), with windows of 0, 1, M - 1 and 1,023
+// minutes among the bounds. It prints for each batch how many cells differ.
 ghost use mathlib.Core.Path.{_≡_};
 ghost use Prim.Native.Nat.{_+_, _*_, _≤_, _<_};
 ghost use lib.ListN.{length};
@@ -26,6 +27,25 @@ fn code(rank: u8) -> u8 {
         return 0;
     }
     1
+}
+
+// The code of not.
+fn opposite(x: u8) -> u8 {
+    code(2 - rank(x))
+}
+
+// The row of not.
+fn opposites(row: &[u8]) -> [u8; 1024]
+    requires { ⌜ length (now row) ≤ 1024 ⌝ }
+    ensures { λ r. ⌜ length r ≡ 1024 ⌝ }
+{
+    let mut others = [0u8; 1024];
+    let mut t: usize = 0;
+    while t < row.len() {
+        others[t] = opposite(row[t]);
+        t += 1;
+    }
+    others
 }
 
 fn lesser(x: u8, y: u8) -> u8 {
@@ -90,6 +110,44 @@ fn until_at(points: &[u8], left: &[u8], right: &[u8], lower: usize, upper: usize
         on += 1;
     }
     code(any)
+}
+
+// `true since right`, or where it is negated `not (true since not right)`, with `not right` in other (02: once, historically).
+fn once_at(
+    points: &[u8],
+    right: &[u8],
+    other: &[u8],
+    negated: bool,
+    lower: usize,
+    upper: usize,
+    t: usize,
+) -> u8
+    requires { ⌜ (upper ≤ 1023) × (t ≤ 1023) ⌝ }
+{
+    let always = [1u8; 1024];
+    if negated {
+        return opposite(since_at(points, &always, other, lower, upper, t));
+    }
+    since_at(points, &always, right, lower, upper, t)
+}
+
+// `true until right`, or where it is negated `not (true until not right)` (02: eventually, always).
+fn eventually_at(
+    points: &[u8],
+    right: &[u8],
+    other: &[u8],
+    negated: bool,
+    lower: usize,
+    upper: usize,
+    t: usize,
+) -> u8
+    requires { ⌜ (lower ≤ 1023) × (upper ≤ 1023) × (t ≤ 1023) ⌝ }
+{
+    let always = [1u8; 1024];
+    if negated {
+        return opposite(until_at(points, &always, other, lower, upper, t));
+    }
+    until_at(points, &always, right, lower, upper, t)
 }
 
 // A mark is its fact, else unknown.
@@ -164,13 +222,13 @@ fn most(x: usize, y: usize) -> usize
     if x < y { y } else { x }
 }
 
-// The first four lines are marks; a later line is of any kind, every second one a since or an until.
+// The first four lines are marks; a later line is of any kind, more often a since or an until.
 fn kind_of(x: u64, k: usize) -> usize {
     if k < 4 {
         return 1;
     }
-    let n = pick(x, 9);
-    if n < 6 { n } else { 4 + n % 2 }
+    let n = pick(x, 16);
+    if n < 12 { n } else { 4 + n % 2 }
 }
 
 // The number of an earlier line, or of a mark.
@@ -261,6 +319,70 @@ fn run(sheet: &[u8], i: usize, minutes: usize) -> &[u8]
     &sheet[at..end]
 }
 
+// The row of a kind that looks back or on, 4, 5 or from 8 on.
+fn worked_over(line: Line, points: &[u8], first: &[u8], second: &[u8]) -> [u8; 1024]
+    requires { ⌜ (length (now points) ≤ 1024)
+        × (length (now first) ≡ length (now points))
+        × (length (now second) ≡ length (now points))
+        × (line .lower ≤ 1023)
+        × (line .upper ≤ 1023) ⌝ }
+    ensures { λ r. ⌜ length r ≡ 1024 ⌝ }
+{
+    let kind = line.kind;
+    let lower = line.lower;
+    let upper = line.upper;
+    let mut ranks = [0u8; 1024];
+    let mut row = [0u8; 1024];
+    if kind == 4 {
+        valuation::since_row(points, first, second, lower, upper, &mut ranks, &mut row);
+        return row;
+    }
+    if kind == 5 {
+        valuation::until_row(points, first, second, lower, upper, &mut ranks, &mut row);
+        return row;
+    }
+    if kind < 10 {
+        valuation::once_row(points, first, kind == 9, lower, upper, &mut ranks, &mut row);
+        return row;
+    }
+    valuation::eventually_row(
+        points,
+        first,
+        kind == 11,
+        lower,
+        upper,
+        &mut ranks,
+        &mut row,
+    );
+    row
+}
+
+// The row of a kind from 2 on, of its operands' rows.
+fn worked_of(line: Line, points: &[u8], first: &[u8], second: &[u8]) -> [u8; 1024]
+    requires { ⌜ (length (now points) ≤ 1024)
+        × (length (now first) ≡ length (now points))
+        × (length (now second) ≡ length (now points))
+        × (line .lower ≤ 1023)
+        × (line .upper ≤ 1023) ⌝ }
+    ensures { λ r. ⌜ length r ≡ 1024 ⌝ }
+{
+    let kind = line.kind;
+    let mut row = [0u8; 1024];
+    if kind == 2 {
+        valuation::not_row(first, &mut row);
+        return row;
+    }
+    if kind == 3 {
+        valuation::or_row(first, second, &mut row);
+        return row;
+    }
+    if (kind == 6) | (kind == 7) {
+        valuation::and_row(first, second, kind == 7, &mut row);
+        return row;
+    }
+    worked_over(line, points, first, second)
+}
+
 fn worked(line: Line, points: &[u8], facts: &[u32], sheet: &[u8]) -> [u8; 1024]
     requires { ⌜ (length (now points) ≤ 1024)
         × (length (now facts) ≡ 2 * length (now points))
@@ -272,7 +394,6 @@ fn worked(line: Line, points: &[u8], facts: &[u32], sheet: &[u8]) -> [u8; 1024]
 {
     let m = points.len();
     let kind = line.kind;
-    let mut ranks = [0u8; 1024];
     let mut row = [0u8; 1024];
     if kind == 0 {
         valuation::true_row(m, &mut row);
@@ -283,40 +404,45 @@ fn worked(line: Line, points: &[u8], facts: &[u32], sheet: &[u8]) -> [u8; 1024]
         return row;
     }
     let first = run(sheet, line.first, m);
-    if kind == 2 {
-        valuation::not_row(first, &mut row);
-        return row;
-    }
     let second = run(sheet, line.second, m);
-    if kind == 3 {
-        valuation::or_row(first, second, &mut row);
-        return row;
-    }
-    if kind == 4 {
-        valuation::since_row(
-            points,
-            first,
-            second,
-            line.lower,
-            line.upper,
-            &mut ranks,
-            &mut row,
-        );
-        return row;
-    }
-    valuation::until_row(
-        points,
-        first,
-        second,
-        line.lower,
-        line.upper,
-        &mut ranks,
-        &mut row,
-    );
-    row
+    worked_of(line, points, first, second)
 }
 
-fn defined_at(line: Line, points: &[u8], facts: &[u32], first: &[u8], second: &[u8], t: usize) -> u8
+// The same of a kind that looks back or on, at a minute; other is the row of `not first`.
+fn defined_over(
+    line: Line,
+    points: &[u8],
+    first: &[u8],
+    second: &[u8],
+    other: &[u8],
+    t: usize,
+) -> u8
+    requires { ⌜ (t ≤ 1023) × (line .lower ≤ 1023) × (line .upper ≤ 1023) ⌝ }
+{
+    let kind = line.kind;
+    let lower = line.lower;
+    let upper = line.upper;
+    if kind == 4 {
+        return since_at(points, first, second, lower, upper, t);
+    }
+    if kind == 5 {
+        return until_at(points, first, second, lower, upper, t);
+    }
+    if kind < 10 {
+        return once_at(points, first, other, kind == 9, lower, upper, t);
+    }
+    eventually_at(points, first, other, kind == 11, lower, upper, t)
+}
+
+fn defined_at(
+    line: Line,
+    points: &[u8],
+    facts: &[u32],
+    first: &[u8],
+    second: &[u8],
+    other: &[u8],
+    t: usize,
+) -> u8
     requires { ⌜ (t ≤ 1023) × (line .first < 20) × (line .lower ≤ 1023) × (line .upper ≤ 1023) ⌝ }
 {
     let kind = line.kind;
@@ -332,10 +458,15 @@ fn defined_at(line: Line, points: &[u8], facts: &[u32], first: &[u8], second: &[
     if kind == 3 {
         return code(greater(value(first, t), value(second, t)));
     }
-    if kind == 4 {
-        return since_at(points, first, second, line.lower, line.upper, t);
+    // not (not first or not second)
+    if kind == 6 {
+        return opposite(code(greater(2 - value(first, t), 2 - value(second, t))));
     }
-    until_at(points, first, second, line.lower, line.upper, t)
+    // not first or second
+    if kind == 7 {
+        return code(greater(2 - value(first, t), value(second, t)));
+    }
+    defined_over(line, points, first, second, other, t)
 }
 
 fn defined(line: Line, points: &[u8], facts: &[u32], sheet: &[u8]) -> [u8; 1024]
@@ -349,10 +480,11 @@ fn defined(line: Line, points: &[u8], facts: &[u32], sheet: &[u8]) -> [u8; 1024]
     let m = points.len();
     let first = run(sheet, line.first, m);
     let second = run(sheet, line.second, m);
+    let other = opposites(first);
     let mut row = [0u8; 1024];
     let mut t: usize = 0;
     while t < m {
-        row[t] = defined_at(line, points, facts, first, second, t);
+        row[t] = defined_at(line, points, facts, first, second, &other[0..m], t);
         t += 1;
     }
     row
@@ -412,6 +544,86 @@ fn show_row(line: Line, row: &[u8]) {
     io::write_all(1, b": ");
     show_codes(row);
     io::write_all(1, b"\n");
+}
+
+// ---- rows worked out by hand, of the kinds of request 6
+
+// Prints the row of a line of its operands' rows.
+fn show_worked(line: Line, points: &[u8], first: &[u8], second: &[u8])
+    requires { ⌜ (length (now points) ≤ 1024)
+        × (length (now first) ≡ length (now points))
+        × (length (now second) ≡ length (now points))
+        × (line .lower ≤ 1023)
+        × (line .upper ≤ 1023) ⌝ }
+{
+    let m = points.len();
+    let row = worked_of(line, points, first, second);
+    io::write_all(1, b": ");
+    show_codes(&row[0..m]);
+    io::write_all(1, b"\n");
+}
+
+// A row of and or implies, in which minutes that are time points or not don't count.
+fn show_joined(name: &[u8], kind: usize, first: &[u8], second: &[u8])
+    requires { ⌜ (length (now first) ≤ 1024) × (length (now second) ≡ length (now first)) ⌝ }
+{
+    let line = Line {
+        kind: kind,
+        first: 0,
+        second: 0,
+        lower: 0,
+        upper: 0,
+    };
+    io::write_all(1, name);
+    show_worked(line, first, first, second);
+}
+
+// A row of once, historically, eventually or always.
+fn show_window(name: &[u8], kind: usize, points: &[u8], operand: &[u8], lower: usize, upper: usize)
+    requires { ⌜ (length (now points) ≤ 1024)
+        × (length (now operand) ≡ length (now points))
+        × (lower ≤ 1023)
+        × (upper ≤ 1023) ⌝ }
+{
+    let line = Line {
+        kind: kind,
+        first: 0,
+        second: 0,
+        lower: lower,
+        upper: upper,
+    };
+    io::write_all(1, name);
+    show(b" from ", lower);
+    show(b" to ", upper);
+    show_worked(line, points, operand, operand);
+}
+
+// The minute itself, two minutes, one that is not the minute itself, and all from the third on.
+fn show_windows(name: &[u8], kind: usize, points: &[u8], operand: &[u8])
+    requires { ⌜ (length (now points) ≤ 1024) × (length (now operand) ≡ length (now points)) ⌝ }
+{
+    show_window(name, kind, points, operand, 0, 0);
+    show_window(name, kind, points, operand, 1, 2);
+    show_window(name, kind, points, operand, 2, 2);
+    show_window(name, kind, points, operand, 3, 1023);
+}
+
+// Every pair of values.
+fn show_pairs() {
+    let first = [1u8, 1, 1, 2, 2, 2, 0, 0, 0];
+    let second = [1u8, 2, 0, 1, 2, 0, 1, 2, 0];
+    show_joined(b"and", 6, &first, &second);
+    show_joined(b"implies", 7, &first, &second);
+}
+
+// Ten minutes: 2 and 7 are quiet, 3 and 5 open; the operand is true and false in both, and unknown at minute 6, a time point.
+fn show_ten_minutes() {
+    let points = [1u8, 1, 2, 0, 1, 0, 1, 2, 1, 1];
+    let operand = [1u8, 2, 1, 1, 1, 2, 0, 2, 1, 2];
+    show_windows(b"once", 8, &points, &operand);
+    show_windows(b"historically", 9, &points, &operand);
+    show_windows(b"eventually", 10, &points, &operand);
+    show_windows(b"always", 11, &points, &operand);
 }
 
 // ---- batches
@@ -488,6 +700,8 @@ fn batch(number: usize) -> usize
 }
 
 fn main() {
+    show_pairs();
+    show_ten_minutes();
     let mut n: usize = 0;
     let mut number: usize = 0;
     while number < 60 {

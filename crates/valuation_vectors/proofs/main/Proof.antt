@@ -11,6 +11,12 @@ Inv-loop n₀ number₀ t3 t4 t5 n number = (number ≤ 60) × (n ≤ 20480 * nu
 abbrev μ-loop : tie.MeasureT-loop
 μ-loop n₀ number₀ t3 t4 t5 n number = 60 - number
 
+show-pairs-requires : tie.Need-show-pairs-requires Inv-loop μ-loop
+show-pairs-requires c κs = search needs
+
+show-ten-minutes-requires : tie.Need-show-ten-minutes-requires Inv-loop μ-loop
+show-ten-minutes-requires c κs = search needs
+
 loop-holds : tie.Need-loop-holds Inv-loop μ-loop
 loop-holds c = search needs
 
@@ -59,6 +65,8 @@ main-spec =
     (tie.spec
     Inv-loop
     μ-loop
+    show-pairs-requires
+    show-ten-minutes-requires
     loop-holds
     batch-requires
     add-n
