@@ -17,13 +17,17 @@ def subformula(kind, first=0, second=0, lower=0, upper=0, rule=False):
     return fields(rule << 5, ("B", kind), ("B", first), ("B", second), ("H", lower), ("H", upper))
 
 
-def observation(component, minute, number, **told):
-    """What a component saw: each proposition that is told, by its name."""
-    values = {NAMES.index(name): value for name, value in told.items()}
+def told(component, minute, number, values):
+    """What a component saw: the value of each proposition that is told, by its number."""
     known = sum(1 << k for k in values)
     bits = sum(values[k] << place for place, k in enumerate(sorted(values)))
     start = fields(0, ("B", component), ("H", minute), ("H", number), ("I", known))
     return start + bits.to_bytes((len(values) + 7) // 8, "little")
+
+
+def observation(component, minute, number, **values):
+    """What a component saw, by the propositions' names."""
+    return told(component, minute, number, {NAMES.index(name): value for name, value in values.items()})
 
 
 def alive(component, minute, number):
@@ -70,10 +74,10 @@ def policy():
     return heading + b"".join(SUBFORMULAS)
 
 
-def program_input():
-    messages = b"".join(bytes([len(message)]) + message for message in MESSAGES)
-    return struct.pack("<H", len(policy())) + policy() + messages
+def framed(policy, messages):
+    """The printing program's input."""
+    return struct.pack("<H", len(policy)) + policy + b"".join(bytes([len(message)]) + message for message in messages)
 
 
 if __name__ == "__main__":
-    sys.stdout.buffer.write(program_input())
+    sys.stdout.buffer.write(framed(policy(), MESSAGES))

@@ -1,14 +1,14 @@
 /* The calls of the proved runtime monitor for C, on x86-64 Linux: link libmonitor_c.a, which `rt staticlib monitor_c` writes.
 
    A call gives 0, or the number of its refusal, and writes *detail: the place of a refusal (0 where it has none), how many
-   verdicts stand after zankezurt_receive, the verdict that zankezurt_lookup shows, the length of what zankezurt_encode_policy or
-   zankezurt_encode_message wrote, 0 after zankezurt_open. zankezurt_receive_packet writes *taken and *place instead. Nothing is
-   asked of what the bytes, buffers and numbers hold, nor of lengths, and a refused call changes no buffer and no *extent; of a packet
-   this is meant of each message, and those taken before the refusal remain taken.
+   verdicts stand after zankezurt_receive, the verdict that zankezurt_lookup shows, the length of what zankezurt_encode_policy,
+   zankezurt_encode_message or zankezurt_compile_rule wrote, 0 after zankezurt_open. zankezurt_receive_packet writes *taken and *place
+   instead. Nothing is asked of what the bytes, buffers and numbers hold, nor of lengths, and a refused call changes no buffer and no
+   *extent; of a packet this is meant of each message, and those taken before the refusal remain taken.
 
    What C itself asks of a caller: each pointer is aligned for its type and points to as many elements as its length says, fields to
-   64 lines, extent, detail, taken and place to one number; a policy, message or packet of length 0 may be NULL, a buffer (out too,
-   even of length 0), fields, extent, detail, taken and place may not; nothing that a call may write (the whole lent state, out,
+   64 lines, extent, detail, taken and place to one number; a policy, message, packet or text of length 0 may be NULL, a buffer (out
+   too, even of length 0), fields, extent, detail, taken and place may not; nothing that a call may write (the whole lent state, out,
    *detail, *taken and *place) overlaps anything else that it is lent. So the policy that stands in a state's origin may not be lent
    from there together with that state, tempting as it is: the policy has memory of its own. No pointer is kept after a call.
    docs/EMBEDDING.md has stack, time, threads and power cuts. */
@@ -28,9 +28,9 @@
 extern "C" {
 #endif
 
-/* Why a call was turned away. Four reasons have a place, a byte of the policy or message. In a packet 7, 8 and 9 have one, counted
-   from its start: 7 the packet's length, 8 and 9 the message's first byte. Where 2, 3, 4 and 8 are of numbers that are to be
-   written, none has. */
+/* Why a call was turned away. Six reasons have a place, a byte of the policy, message or text of a rule, or its length. In a packet 7,
+   8 and 9 have one, counted from its start: 7 the packet's length, 8 and 9 the message's first byte. Where 2, 3, 4 and 8 are of
+   numbers that are to be written, none has. */
 enum zankezurt_refusal {
     ZANKEZURT_ACCEPTED = 0,
     ZANKEZURT_TRUNCATED_POLICY = 1, /* the policy ends early, or bytes follow its last line; its length, or the first extra byte */
@@ -44,7 +44,10 @@ enum zankezurt_refusal {
     ZANKEZURT_CONFLICT = 9,         /* no run of the components agrees with what is known and the message */
     ZANKEZURT_OUT_OF_RANGE = 10,    /* a look at a rule or minute that the policy does not have */
     ZANKEZURT_SHORT_BUFFER = 11,    /* the buffer is shorter than the text */
-    ZANKEZURT_OTHER_POLICY = 12     /* the state was opened under another policy */
+    ZANKEZURT_OTHER_POLICY = 12,    /* the state was opened under another policy */
+    ZANKEZURT_RULE_SYNTAX = 13,     /* the text is no rule; the first byte with which no rule can go on, or the text's length */
+    ZANKEZURT_RULE_LIMIT = 14       /* too much rule: more than 32 open brackets, a number past its range, a 65th term, an interval with
+                                       a above b; the bracket, the first digit, where the term would start, the "[" */
 };
 
 /* What the verdict sheet shows: blank, kept or broken. */
@@ -162,12 +165,22 @@ uint8_t zankezurt_encode_message(const uint8_t *policy, size_t policy_length,
                                  uint8_t *out, size_t out_length,
                                  size_t *detail);
 
+/* Reads a rule typed as text, and writes the policy of these sizes with that one rule at the start of out; a longer out keeps its
+   rest. A rule is a term: true, m with the number of a proposition (m7), not term, (term or term), (term and term),
+   (term since[a,b] term) or (term until[a,b] term), with one space between words and none elsewhere, and numbers without leading
+   zeros. Each term gets a line, in the order in which their texts end. Refused are, in this order, a size out of range (2), no rule
+   (13) or too much rule (14), whichever comes first in the text and 14 where both are at one place, and a short buffer (11). */
+uint8_t zankezurt_compile_rule(const uint8_t *text, size_t text_length,
+                               size_t propositions, size_t components, size_t minutes,
+                               uint8_t *out, size_t out_length,
+                               size_t *detail);
+
 /* The version of the archive that is linked, counted as ZANKEZURT_VERSION is. */
 uint32_t zankezurt_version(void);
 
 /* Nothing is promised of the archive's functions where a pointer is NULL, not even with a length of 0: the language that they are
-   compiled from has no such slice. So in C the names of the five calls that read bytes stand for the functions below, which put an
-   address of their own in the place of an empty policy, message or packet. */
+   compiled from has no such slice. So in C the names of the six calls that read bytes stand for the functions below, which put an
+   address of their own in the place of an empty policy, message, packet or text. */
 static inline const uint8_t *zankezurt_bytes(const uint8_t *bytes, size_t length)
 {
     static const uint8_t none = 0;
@@ -218,11 +231,21 @@ static inline uint8_t zankezurt_encode_message_bytes(const uint8_t *policy, size
                                     named, values, out, out_length, detail);
 }
 
+static inline uint8_t zankezurt_compile_rule_bytes(const uint8_t *text, size_t text_length,
+                                                   size_t propositions, size_t components, size_t minutes,
+                                                   uint8_t *out, size_t out_length,
+                                                   size_t *detail)
+{
+    return zankezurt_compile_rule(zankezurt_bytes(text, text_length), text_length, propositions, components, minutes,
+                                  out, out_length, detail);
+}
+
 #define zankezurt_open zankezurt_open_bytes
 #define zankezurt_receive zankezurt_receive_bytes
 #define zankezurt_receive_packet zankezurt_receive_packet_bytes
 #define zankezurt_lookup zankezurt_lookup_bytes
 #define zankezurt_encode_message zankezurt_encode_message_bytes
+#define zankezurt_compile_rule zankezurt_compile_rule_bytes
 
 #ifdef __cplusplus
 }

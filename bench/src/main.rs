@@ -1,14 +1,16 @@
-//! Prints what a take, a packet and a text that is written cost: `bench`. `bench packet COUNT` prints a packet of that many messages
-//! alone, `bench kinds` the takes under abbreviations alone, `bench writing` the writers alone, `bench take NAME COUNT` only makes the
-//! takes, with a full record or with that of a third word: `full`, `empty` or `bunched`, and with lines of the kinds of a fourth:
-//! `primitive` or `abbreviated`, and `bench placed OLD.. NEW..` compares the takes of two archives, each linked at the same places.
+//! Prints what a take, a packet, a text that is written and a rule typed as text cost: `bench`. `bench packet COUNT` prints a packet of that
+//! many messages alone, `bench kinds` the takes under abbreviations alone, `bench writing` the writers alone, `bench rules` the rules typed
+//! as text alone, `bench take NAME COUNT` only makes the takes, with a full record or with that of a third word: `full`, `empty` or
+//! `bunched`, and with lines of the kinds of a fourth: `primitive` or `abbreviated`, `bench rule NAME COUNT` only reads the rule of that
+//! name so many times, and `bench placed OLD.. NEW..` compares the takes of two archives, each linked at the same places.
 
 use bench::contender::{Contender, ALL};
 use bench::demo;
-use bench::growth::{added, points, slope};
+use bench::growth::{added, points, slope, Point};
 use bench::instructions;
 use bench::packet;
 use bench::placed::Placed;
+use bench::rules::{self, Typed};
 use bench::timing::{in_turns, ratios, under_each, Spread, Take};
 use bench::workload::{Kinds, Record, Shape, Workload, LARGEST};
 use bench::writing;
@@ -24,6 +26,7 @@ const PLACE: usize = 16;
 /// The minutes of a trace with which the growth is measured.
 const MINUTES: [usize; 5] = [64, 128, 256, 512, 1024];
 const MICRO: f64 = 1e6;
+const NANO: f64 = 1e9;
 /// Those whose takes are quick: all but the direct readings.
 const QUICK: [Contender; 3] = [Contender::Monitor, Contender::Plain, Contender::Floor];
 
@@ -37,9 +40,12 @@ fn main() {
         ["packet", count] => packets(count.parse().expect("a count")),
         ["kinds"] => abbreviations(),
         ["writing"] => written(),
+        ["rules"] => typed(),
+        ["rule", name, count] => compile(name, count.parse().expect("a count")),
         ["placed", ref libraries @ ..] if libraries.len() % 2 == 0 => placed(libraries),
         _ => panic!(
-            "usage: bench [take NAME COUNT [RECORD [KINDS]] | packet COUNT | kinds | writing | placed OLD.. NEW..]"
+            "usage: bench [take NAME COUNT [RECORD [KINDS]] | packet COUNT | kinds | writing | rules | rule NAME COUNT | \
+             placed OLD.. NEW..]"
         ),
     }
 }
@@ -71,6 +77,7 @@ fn report() {
         Shape { components: 1, subformulas, rules: 1, spacing: 64, ..LARGEST }
     });
     written();
+    typed();
 }
 
 /// Takes under lines that are abbreviations, and under the demo's rules with them and without.
@@ -202,6 +209,39 @@ fn written() {
         "Writing the longest message: {:.3} µs, with the longest policy read first\n",
         writing::message(SAMPLES) * MICRO
     );
+}
+
+/// Rules typed as text: those that are accepted, and those whose long numbers are read to their ends before they are refused.
+fn typed() {
+    println!("A rule typed as text");
+    println!("{:<50} {:>12} {:>12} {:>12}", "", "bytes", "least µs", "ns a byte");
+    typed_rows(&rules::accepted());
+    for texts in [rules::long_propositions(), rules::long_intervals()] {
+        let points = typed_rows(&texts);
+        println!("slope on logarithmic scales: of the time {:.3}", slope(&points));
+    }
+    println!();
+}
+
+fn typed_rows(texts: &[Typed]) -> Vec<Point> {
+    let points = rules::points(texts, SAMPLES);
+    for (typed, point) in texts.iter().zip(&points) {
+        let bytes = point.size as f64;
+        let instructions = match instructions::of_a_rule(typed) {
+            Ok(count) => format!("{count} instructions, {:.2} a byte", count as f64 / bytes),
+            Err(why) => format!("not counted: {why}"),
+        };
+        let (time, a_byte) = (point.time * MICRO, point.time * NANO / bytes);
+        println!("{:<50} {bytes:>12} {time:>12.3} {a_byte:>12.3}  {instructions}", typed.name);
+    }
+    points
+}
+
+/// Reads the rule of a name so many times.
+fn compile(name: &str, count: usize) {
+    let texts = [rules::accepted(), rules::long_propositions(), rules::long_intervals()];
+    let typed = texts.iter().flatten().find(|typed| typed.name == name).expect("a rule's name");
+    (0..count).for_each(|_| typed.compile());
 }
 
 /// Growth with one size, the others as they are.

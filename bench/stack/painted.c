@@ -1,4 +1,4 @@
-/* Runs each call on a painted stack, under the largest policy, and prints how many bytes of the stack it wrote. */
+/* Runs each call on a painted stack, under the largest policy or with the deepest rules, and prints how many bytes of the stack it wrote. */
 #include <stdint.h>
 #include <stdio.h>
 #include <stdlib.h>
@@ -9,9 +9,13 @@
 
 enum { PROPOSITIONS = 32, COMPONENTS = 16, MINUTES = 1024, SUBFORMULAS = 64, RULES = 8 };
 enum { STACK = 1 << 16, PAINT = 0xA5, LONGEST = 5 + 4 * SUBFORMULAS };
+enum { NESTING = 32, RULE_LONGEST = 1 << 10 };
 
 static uint8_t policy[LONGEST];
 static size_t policy_length;
+
+static char nested[RULE_LONGEST], accepted[RULE_LONGEST];
+static size_t nested_length, accepted_length;
 
 static ZANKEZURT_STATE(COMPONENTS, MINUTES, SUBFORMULAS, RULES) state;
 
@@ -40,6 +44,18 @@ static void write_policy(void)
         const uint8_t temporal[] = {rule | 0x11, kinds[(size_t)line % sizeof kinds], 0xFF, 0x03};
         append(temporal, sizeof temporal);
     }
+}
+
+/* A rule of 2 * brackets + 1 terms: a mark, in so many brackets, each of which joins one more mark to what it holds. */
+static size_t write_rule(char *rule, int brackets)
+{
+    size_t length = 0;
+    for (int bracket = 0; bracket < brackets; bracket++)
+        rule[length++] = '(';
+    length += (size_t)sprintf(rule + length, "m%d", PROPOSITIONS - 1);
+    for (int bracket = 0; bracket < brackets; bracket++)
+        length += (size_t)sprintf(rule + length, " since[1,%d] m%d)", MINUTES - 1, PROPOSITIONS - 1);
+    return length;
 }
 
 static void call_nothing(void) {}
@@ -92,6 +108,18 @@ static void call_encode_message(void)
                                        sizeof out, &detail);
 }
 
+static uint8_t compile(const char *rule, size_t length)
+{
+    static uint8_t out[ZANKEZURT_POLICY_LENGTH];
+    return zankezurt_compile_rule((const uint8_t *)rule, length, PROPOSITIONS, COMPONENTS, MINUTES, out, sizeof out, &detail);
+}
+
+/* As deep as brackets nest: read to the last mark, which would be the 65th term. */
+static void call_compile_nested(void) { refusal = compile(nested, nested_length); }
+
+/* One bracket less, and 63 terms: a policy is written. */
+static void call_compile_accepted(void) { refusal = compile(accepted, accepted_length); }
+
 /* How far down the stack was written. */
 static size_t written(void (*call)(void))
 {
@@ -108,19 +136,37 @@ static size_t written(void (*call)(void))
     return sizeof stack - untouched;
 }
 
-static void print(const char *name, void (*call)(void))
+/* How many bytes a call wrote, which must answer as it should. */
+static size_t taken_by(const char *name, void (*call)(void), uint8_t expected)
 {
-    refusal = ZANKEZURT_ACCEPTED;
-    printf("%s %zu\n", name, written(call) - written(call_nothing));
-    if (refusal != ZANKEZURT_ACCEPTED) {
+    const size_t bytes = written(call) - written(call_nothing);
+    if (refusal != expected) {
         fprintf(stderr, "%s: refused %u at %zu\n", name, refusal, detail);
         exit(1);
     }
+    return bytes;
+}
+
+static void print(const char *name, void (*call)(void))
+{
+    refusal = ZANKEZURT_ACCEPTED;
+    printf("%s %zu\n", name, taken_by(name, call, ZANKEZURT_ACCEPTED));
+}
+
+/* The larger of a rule that is refused and of one that is written. */
+static void print_compile_rule(const char *name)
+{
+    const size_t read = taken_by(name, call_compile_nested, ZANKEZURT_RULE_LIMIT);
+    const size_t both = taken_by(name, call_compile_accepted, ZANKEZURT_ACCEPTED);
+    printf("%s %zu\n", name, read > both ? read : both);
 }
 
 int main(void)
 {
     write_policy();
+    nested_length = write_rule(nested, NESTING);
+    accepted_length = write_rule(accepted, NESTING - 1);
+    print_compile_rule("zankezurt_compile_rule");
     print("zankezurt_encode_message", call_encode_message);
     print("zankezurt_encode_policy", call_encode_policy);
     print("zankezurt_lookup", call_lookup);

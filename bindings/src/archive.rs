@@ -109,5 +109,16 @@ extern "C" {
         detail: *mut usize,
     ) -> u8;
 
+    pub fn zankezurt_compile_rule(
+        text: *const u8,
+        text_length: usize,
+        propositions: usize,
+        components: usize,
+        minutes: usize,
+        out: *mut u8,
+        out_length: usize,
+        detail: *mut usize,
+    ) -> u8;
+
     pub fn zankezurt_version() -> u32;
 }

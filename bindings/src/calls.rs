@@ -133,6 +133,27 @@ pub fn encode_message(policy: &[u8], message: Message, out: &mut [u8]) -> Result
     answer(call!(zankezurt_encode_message(policy; component, alive, minute, number, named, values; out; detail)))
 }
 
+/// Reads a rule typed as text, writes the policy of these sizes with that one rule at the start of the lent buffer, and gives its length, at
+/// most [`POLICY_LENGTH`](crate::POLICY_LENGTH). A longer buffer keeps its rest.
+///
+/// A rule is a term: `true`, `m` with the number of a proposition (`m7`), `not term`, `(term or term)`, `(term and term)`,
+/// `(term since[a,b] term)` or `(term until[a,b] term)`, with one space between words and none elsewhere, and numbers without leading
+/// zeros. Each term gets a line, in the order in which their texts end.
+///
+/// Refused are, in this order: a size that is out of range (2, at place 0); a text that is no rule (13, at the first byte with which no
+/// rule can go on, or at the text's end) or a rule that is too much (14, at a bracket inside 32 open ones, at the first digit of a number
+/// past its range, where a 65th term would start, or at the `[` of an interval with a above b), whichever comes first in the text, and 14
+/// where both are at one place; and a buffer that is shorter than the policy (11, at place 0). Nothing is written then.
+pub fn compile_rule(
+    text: &[u8],
+    propositions: usize,
+    components: usize,
+    minutes: usize,
+    out: &mut [u8],
+) -> Result<usize, Refusal> {
+    answer(call!(zankezurt_compile_rule(text; propositions, components, minutes; out; detail)))
+}
+
 #[cfg(test)]
 mod tests {
     use super::*;

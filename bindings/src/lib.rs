@@ -98,6 +98,24 @@
 //! # Ok::<(), zankezurt::Refusal>(())
 //! ```
 //!
+//! [`compile_rule`] writes the policy of a rule that is typed as text:
+//!
+//! ```
+//! use zankezurt::{compile_rule, POLICY_LENGTH};
+//!
+//! // mark 0 at some time in the last 2 minutes, with 1 mark, 1 component and 4 minutes
+//! let mut policy = [0; POLICY_LENGTH];
+//! let length = compile_rule(b"(true since[0,2] m0)", 1, 1, 4, &mut policy)?;
+//! assert_eq!(policy[..length], [0x01, 0x01, 0x04, 0x00, 0x03, 0x00, 0x01, 0x01, 0x35, 0x04, 0x01, 0x02, 0x00]);
+//!
+//! // a word that there is not, and a mark that there is not
+//! let refusal = compile_rule(b"(true since[0,2] m0 or m0)", 1, 1, 4, &mut policy).unwrap_err();
+//! assert_eq!(refusal.to_string(), "refused 13 at 19: rule syntax");
+//! let refusal = compile_rule(b"(true since[0,2] m1)", 1, 1, 4, &mut policy).unwrap_err();
+//! assert_eq!(refusal.to_string(), "refused 14 at 18: rule limit");
+//! # Ok::<(), zankezurt::Refusal>(())
+//! ```
+//!
 //! Nothing is asked of the arguments: any bytes and any buffers may be lent. What is wrong is refused, with a number and a place, and
 //! a refused call changes nothing; of a packet this is meant of each message, and those taken before the refusal remain taken.
 //! `docs/EMBEDDING.md` has stack, time, threads and power cuts.
@@ -119,7 +137,7 @@ mod sizes;
 mod state;
 mod version;
 
-pub use calls::{encode_message, encode_policy, lookup, open, receive, receive_packet, Packet, Verdict};
+pub use calls::{compile_rule, encode_message, encode_policy, lookup, open, receive, receive_packet, Packet, Verdict};
 pub use fields::{Line, Message, MESSAGE_LENGTH, POLICY_LENGTH};
 pub use refusal::{Reason, Refusal};
 #[cfg(feature = "alloc")]

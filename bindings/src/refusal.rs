@@ -31,13 +31,17 @@ pub enum Reason {
     ShortBuffer,
     /// The lent state was opened under another policy.
     OtherPolicy,
+    /// The text is no rule.
+    RuleSyntax,
+    /// The rule has too many brackets or terms, a number past its range, or an interval whose ends are crossed.
+    RuleLimit,
     /// A number that this version of the bindings has no name for: the archive is of another version.
     Unnamed(u8),
 }
 
 impl Reason {
     /// The reasons that have a name, in the order of their numbers.
-    pub const ALL: [Reason; 12] = [
+    pub const ALL: [Reason; 14] = [
         Reason::TruncatedPolicy,
         Reason::BadHeading,
         Reason::BadSubformula,
@@ -50,6 +54,8 @@ impl Reason {
         Reason::OutOfRange,
         Reason::ShortBuffer,
         Reason::OtherPolicy,
+        Reason::RuleSyntax,
+        Reason::RuleLimit,
     ];
 
     /// The reason's number, from 1.
@@ -67,6 +73,8 @@ impl Reason {
             Reason::OutOfRange => 10,
             Reason::ShortBuffer => 11,
             Reason::OtherPolicy => 12,
+            Reason::RuleSyntax => 13,
+            Reason::RuleLimit => 14,
             Reason::Unnamed(number) => number,
         }
     }
@@ -93,18 +101,20 @@ impl fmt::Display for Reason {
             Reason::OutOfRange => "out of range",
             Reason::ShortBuffer => "short buffer",
             Reason::OtherPolicy => "other policy",
+            Reason::RuleSyntax => "rule syntax",
+            Reason::RuleLimit => "rule limit",
             Reason::Unnamed(_) => "a reason without a name here",
         })
     }
 }
 
-/// A refusal: its reason, and where in the policy, message or packet it was found (0 where the reason has no place, and where it is of
-/// fields).
+/// A refusal: its reason, and where in the policy, message, packet or text of a rule it was found (0 where the reason has no place, and
+/// where it is of fields or sizes).
 #[derive(Clone, Copy, Debug, PartialEq, Eq, Hash)]
 pub struct Refusal {
     /// Why the call was turned away.
     pub reason: Reason,
-    /// A byte of the policy, message or packet, or 0.
+    /// A byte of the policy, message, packet or text, or its end, or 0.
     pub place: usize,
 }
 

@@ -1,5 +1,5 @@
-/* Calls from C with empty and NULL bytes, packets, states of other policies, fields to write, lines of every kind, and the version; prints
-   the version. */
+/* Calls from C with empty and NULL bytes, packets, states of other policies, fields to write, lines of every kind, rules typed as text, and
+   the version; prints the version. */
 #include <stdio.h>
 #include <stdlib.h>
 #include <string.h>
@@ -213,6 +213,71 @@ static void write_messages(void)
     }
 }
 
+/* Writes the policy of a text of so many bytes into a buffer of so many. */
+static uint8_t compile_bytes(const char *text, size_t text_length, size_t length)
+{
+    memset(out, 0x5A, sizeof out);
+    return zankezurt_compile_rule((const uint8_t *)text, text_length, 1, COMPONENTS, MINUTES, out, length, &detail);
+}
+
+/* A text is refused with this number at this place, whatever room there is, and nothing is written. */
+static void expect_no_rule(const char *text, uint8_t refusal, size_t at)
+{
+    for (size_t length = 0; length <= sizeof out; length += sizeof out) {
+        detail = SIZE_MAX;
+        expect(text, compile_bytes(text, strlen(text), length), refusal);
+        expect("its place", detail, at);
+        expect_written("a buffer for what is refused", policy, 0);
+    }
+}
+
+/* The text of so many times this, and then that. */
+static const char *repeated(const char *word, int times, const char *then)
+{
+    static char text[1024];
+    text[0] = 0;
+    while (times-- > 0)
+        strcat(text, word);
+    return strcat(text, then);
+}
+
+static void compile_rules(void)
+{
+    static const char rule[] = "(true since[0,2] m0)";
+
+    expect("a rule", compile_bytes(rule, strlen(rule), sizeof out), ZANKEZURT_ACCEPTED);
+    expect("its length", detail, sizeof policy);
+    expect_written("its bytes", policy, sizeof policy);
+    expect("a state under it", open_under(out, sizeof policy), ZANKEZURT_ACCEPTED);
+    expect("a buffer of its length", compile_bytes(rule, strlen(rule), sizeof policy), ZANKEZURT_ACCEPTED);
+    expect_written("its bytes there", policy, sizeof policy);
+    expect("a shorter one", compile_bytes(rule, strlen(rule), sizeof policy - 1), ZANKEZURT_SHORT_BUFFER);
+    expect("its place", detail, 0);
+    expect_written("a buffer that is too short", policy, 0);
+    expect("a text that is NULL", compile_bytes(NULL, 0, sizeof out), ZANKEZURT_RULE_SYNTAX);
+    expect("its place", detail, 0);
+    expect("a text with its last byte, 0", compile_bytes(rule, sizeof rule, sizeof out), ZANKEZURT_RULE_SYNTAX);
+    expect("its place", detail, strlen(rule));
+
+    expect_no_rule("", ZANKEZURT_RULE_SYNTAX, 0);
+    expect_no_rule("(m0 or", ZANKEZURT_RULE_SYNTAX, 6);
+    expect_no_rule("(m0 or m00)", ZANKEZURT_RULE_SYNTAX, 9);
+    expect_no_rule("(m0 since[5,3", ZANKEZURT_RULE_SYNTAX, 13);
+    expect_no_rule("m1", ZANKEZURT_RULE_LIMIT, 1);
+    expect_no_rule("(m0 since[2000,3", ZANKEZURT_RULE_LIMIT, 10);
+    expect_no_rule("(m0 since[2000,3] m0)", ZANKEZURT_RULE_LIMIT, 9);
+    expect_no_rule(repeated("(", 32, ""), ZANKEZURT_RULE_SYNTAX, 32);
+    expect_no_rule(repeated("(", 33, ""), ZANKEZURT_RULE_LIMIT, 32);
+    expect_no_rule(repeated("not ", 64, "x"), ZANKEZURT_RULE_LIMIT, 256);
+    expect_no_rule(repeated("not ", 63, "x"), ZANKEZURT_RULE_SYNTAX, 252);
+
+    detail = 1;
+    expect("no proposition, and no rule", zankezurt_compile_rule(NULL, 0, 0, 1, 1, out, 0, &detail), ZANKEZURT_BAD_HEADING);
+    expect("its place", detail, 0);
+    expect("17 components", zankezurt_compile_rule(NULL, 0, 1, 17, 1, out, 0, &detail), ZANKEZURT_BAD_HEADING);
+    expect("very many minutes", zankezurt_compile_rule(NULL, 0, 1, 1, SIZE_MAX, out, 0, &detail), ZANKEZURT_BAD_HEADING);
+}
+
 /* Keeps the state as it is, or expects it as it was kept. */
 static void keep(void) { memcpy(&kept, &state, sizeof state); }
 static void expect_kept(const char *what) { expect(what, memcmp(&kept, &state, sizeof state) == 0, 1); }
@@ -326,6 +391,7 @@ int main(void)
     write_policies();
     write_kinds();
     write_messages();
+    compile_rules();
 
     expect("the archive's version", zankezurt_version(), ZANKEZURT_VERSION);
     printf("version %d\n", ZANKEZURT_VERSION);

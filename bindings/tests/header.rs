@@ -94,8 +94,8 @@ fn the_archive_is_of_the_bindings_version() {
     assert_eq!(version(), VERSION);
 }
 
-/// The header's version, the archive's, and calls with empty and NULL bytes, packets, states of other policies, fields to write and lines of
-/// every kind, from C; it stops at the first that is wrong.
+/// The header's version, the archive's, and calls with empty and NULL bytes, packets, states of other policies, fields to write, lines of
+/// every kind and rules typed as text, from C; it stops at the first that is wrong.
 #[test]
 fn the_calls_from_c() {
     let said = Command::new(build_program("bindings/tests/calls.c", "calls")).output().unwrap();

@@ -2,23 +2,11 @@
 //! have the verdicts of what they abbreviate.
 #![cfg(feature = "alloc")]
 
+#[path = "common/lines.rs"]
+mod lines;
+
+use lines::{join, not, proposition, TRUE};
 use zankezurt::{encode_policy, kind, Line, Reason, Refusal, Shift, Sizes, Verdict, POLICY_LENGTH};
-
-const TRUE: Line = Line { kind: kind::TRUE, first: 0, second: 0, lower: 0, upper: 0, rule: 0 };
-
-fn proposition(first: u16) -> Line {
-    Line { kind: kind::PROPOSITION, first, ..TRUE }
-}
-
-/// A not.
-fn not(first: u16) -> Line {
-    Line { kind: kind::NOT, first, ..TRUE }
-}
-
-/// An or, an and or an implies.
-fn join(kind: u16, first: u16, second: u16) -> Line {
-    Line { kind, first, second, ..TRUE }
-}
 
 /// A since or an until.
 fn temporal(kind: u16, first: u16, second: u16) -> Line {

@@ -57,6 +57,16 @@ pub fn encode_message(policy: &[u8], fields: &MessageFields, out: &mut [u8]) -> 
     zankezurt::encode_message(policy, message, out).map_err(refused)
 }
 
+pub fn compile_rule(
+    text: &[u8],
+    propositions: usize,
+    components: usize,
+    minutes: usize,
+    out: &mut [u8],
+) -> Result<usize, Refusal> {
+    zankezurt::compile_rule(text, propositions, components, minutes, out).map_err(refused)
+}
+
 fn refused(refusal: zankezurt::Refusal) -> Refusal {
     Refusal { number: refusal.reason.number(), place: refusal.place }
 }

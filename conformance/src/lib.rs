@@ -74,6 +74,22 @@ pub fn encode_message(policy: &[u8], fields: &MessageFields, out: &mut [u8]) -> 
     both_write(call, out, archive, |out| oracle::encode_message(policy, fields, out))
 }
 
+/// Writes the policy of a rule on both sides; a refusal must have changed nothing.
+pub fn compile_rule(
+    text: &[u8],
+    propositions: usize,
+    components: usize,
+    minutes: usize,
+    out: &mut [u8],
+) -> Result<usize, Refusal> {
+    let call = || {
+        let shown = String::from_utf8_lossy(text);
+        format!("compile_rule\n{shown}\n{text:?}\nwith {propositions}, {components}, {minutes}")
+    };
+    let archive = |out: &mut [u8]| archive::compile_rule(text, propositions, components, minutes, out);
+    both_write(call, out, archive, |out| oracle::compile_rule(text, propositions, components, minutes, out))
+}
+
 /// How many bytes stand on each side of those that the archive is lent.
 const MARGIN: usize = 16;
 

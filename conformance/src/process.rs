@@ -22,6 +22,11 @@ pub fn knowledge_vectors() -> PathBuf {
     built("knowledge_vectors", "ZANKEZURT_KNOWLEDGE_VECTORS")
 }
 
+/// `target/bin/compile_rule` of the repository, or what ZANKEZURT_COMPILE_RULE says.
+pub fn compile_rule() -> PathBuf {
+    built("compile_rule", "ZANKEZURT_COMPILE_RULE")
+}
+
 fn built(name: &str, variable: &str) -> PathBuf {
     let beside = || root().join("target/bin").join(name);
     let program = env::var(variable).map_or_else(|_| beside(), PathBuf::from);

@@ -4,7 +4,7 @@ use conformance::inputs::{self, Size};
 use conformance::process::{printed, root, show};
 use oracle::generate::Random;
 use oracle::reading::Verdict;
-use oracle::write::MessageFields;
+use oracle::write::{MessageFields, PolicyFields};
 use oracle::{Answer, Buffers, Look, PacketAnswer, Refusal};
 use std::fs;
 use std::process::Command;
@@ -200,6 +200,80 @@ fn the_messages_are_written_as_the_document_says() {
         let answer = conformance::encode_message(&policy, &fields, &mut out).map(|length| out[..length].to_vec());
         let expected = if row[6].starts_with('`') { Ok(cell_bytes(&row[6])) } else { Err(refusal(&row[6])) };
         assert_eq!(answer, expected, "{row:?}");
+    }
+}
+
+/// The bytes of a text in a cell: pieces with ", then " between them, each in code, some as often as the number before it says.
+fn cell_text(cell: &str) -> Vec<u8> {
+    if cell == "*(no byte)*" {
+        return Vec::new();
+    }
+    let piece = |piece: &str| {
+        let (times, code) = piece.split_once(" × ").map_or((1, piece), |(times, code)| (times.parse().unwrap(), code));
+        code.strip_prefix('`').and_then(|code| code.strip_suffix('`')).unwrap().repeat(times)
+    };
+    cell.split(", then ").map(piece).collect::<String>().into_bytes()
+}
+
+/// What a call wrote, or why it wrote nothing.
+type Compiled = Result<Vec<u8>, Refusal>;
+
+fn compiled(text: &[u8], [propositions, components, minutes]: [usize; 3], room: usize) -> Compiled {
+    let mut out = vec![0; room];
+    let answer = conformance::compile_rule(text, propositions, components, minutes, &mut out);
+    answer.map(|length| out[..length].to_vec())
+}
+
+/// The answer in a cell: the policy's bytes, how many they are, or a refusal.
+fn is_answered(answer: &Compiled, cell: &str) -> bool {
+    match cell.strip_suffix(" bytes") {
+        Some(length) => answer.as_ref().is_ok_and(|policy| policy.len() == length.parse::<usize>().unwrap()),
+        None if cell.starts_with('`') => *answer == Ok(cell_bytes(cell)),
+        None => *answer == Err(refusal(cell)),
+    }
+}
+
+#[test]
+fn the_worked_rule_becomes_the_worked_policy() {
+    let text = section("### A worked rule");
+    let sentence = text.split_whitespace().collect::<Vec<_>>().join(" ");
+    assert!(sentence
+        .contains("With 1 proposition, 1 component and 4 minutes the text `(true since[0,2] m0)` becomes the policy"));
+    let policy = compiled(b"(true since[0,2] m0)", [1, 1, 4], 517);
+    assert_eq!(policy, Ok(small_policy()));
+    assert_eq!(policy, Ok(worked(blocks(&text)[0])));
+}
+
+/// Whatever is accepted also opens.
+#[test]
+fn the_texts_are_answered_as_the_document_says() {
+    for row in rows(&section("### A worked rule"), "| text | answer |") {
+        let answer = compiled(&cell_text(&row[0]), [1, 1, 4], 517);
+        assert!(is_answered(&answer, &row[1]), "{row:?}: {answer:?}");
+        if let Ok(policy) = answer {
+            opened(&policy);
+        }
+    }
+}
+
+#[test]
+fn the_sizes_and_buffers_of_a_rule_are_answered_as_the_document_says() {
+    for row in rows(&section("### A worked rule"), "| text | propositions |") {
+        let number = |column: usize| row[column].parse().unwrap();
+        let answer = compiled(&cell_text(&row[0]), [number(1), number(2), number(3)], number(4));
+        assert!(is_answered(&answer, &row[5]), "{row:?}: {answer:?}");
+    }
+}
+
+/// The last subformula is the text's own, and the one rule.
+#[test]
+fn the_terms_have_the_kinds_that_the_document_says() {
+    for row in rows(&section("## The rule as text"), "| term | kind |") {
+        let policy = compiled(&cell_text(&row[0]), [1, 1, 4], 517).unwrap();
+        let lines = PolicyFields::from(&oracle::policy::read(&policy).unwrap()).lines;
+        let (last, inner) = lines.split_last().unwrap();
+        assert_eq!(last.kind.to_string(), row[1], "{row:?}");
+        assert!(last.rule && inner.iter().all(|line| !line.rule), "{row:?}");
     }
 }
 

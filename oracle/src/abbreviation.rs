@@ -38,7 +38,7 @@ pub fn abbreviation(formula: Formula) -> Expression {
         Formula::Until(Temporal { first, second, lower, upper }) => {
             until(Operand(first), Operand(second), Interval { lower, upper })
         }
-        Formula::And(first, second) => not(or(not(Operand(first)), not(Operand(second)))),
+        Formula::And(first, second) => and(Operand(first), Operand(second)),
         Formula::Implies(first, second) => or(not(Operand(first)), Operand(second)),
         Formula::Once(span) => once(Operand(span.first), interval(span)),
         Formula::Historically(span) => not(once(not(Operand(span.first)), interval(span))),
@@ -51,19 +51,24 @@ fn interval(Span { lower, upper, .. }: Span) -> Interval {
     Interval { lower, upper }
 }
 
-fn not(first: Expression) -> Expression {
+pub fn not(first: Expression) -> Expression {
     Not(Box::new(first))
 }
 
-fn or(first: Expression, second: Expression) -> Expression {
+pub fn or(first: Expression, second: Expression) -> Expression {
     Or(Box::new(first), Box::new(second))
 }
 
-fn since(first: Expression, second: Expression, interval: Interval) -> Expression {
+/// "a and b is not (not a or not b)".
+pub fn and(first: Expression, second: Expression) -> Expression {
+    not(or(not(first), not(second)))
+}
+
+pub fn since(first: Expression, second: Expression, interval: Interval) -> Expression {
     Since(Box::new(first), Box::new(second), interval)
 }
 
-fn until(first: Expression, second: Expression, interval: Interval) -> Expression {
+pub fn until(first: Expression, second: Expression, interval: Interval) -> Expression {
     Until(Box::new(first), Box::new(second), interval)
 }
 

@@ -10,6 +10,7 @@
 //! | `encoding` | what the formats of policy and message share |
 //! | `policy`, `message` | the two readers |
 //! | `write` | the two writers |
+//! | `rule_text`, `rule_grammar` | rules typed as text: a reader, the policy, and the same decided by the grammar |
 //! | `abbreviation` | every kind by the six of document 01 |
 //! | `trace` | one run of the components, and what it could have sent |
 //! | `knowledge` | the state: sizes, origin, soundness, what a message fixes, conflicts, known time points, searches |
@@ -19,6 +20,7 @@
 //! | `brute` | every trace of a tiny policy, and what must hold over all of them |
 //! | `written_out` | policies in which lines of the newer kinds are written out |
 //! | `generate` | random policies, messages, traces, fields, damage, swapped policies and program inputs |
+//! | `generate_rules` | random texts of rules, right, past the limits and damaged |
 //!
 //! A harness that links the monitor calls both with the same bytes and compares [`Answer`] or [`PacketAnswer`], and
 //! [`Buffers`], after every call; of a writer the length or refusal, and the lent buffer.
@@ -28,6 +30,7 @@ pub mod abbreviation;
 pub mod brute;
 pub mod encoding;
 pub mod generate;
+pub mod generate_rules;
 pub mod knowledge;
 pub mod message;
 pub mod monitor;
@@ -35,6 +38,8 @@ pub mod policy;
 pub mod program;
 pub mod reading;
 pub mod refusal;
+pub mod rule_grammar;
+pub mod rule_text;
 pub mod trace;
 pub mod truth;
 pub mod write;
@@ -44,4 +49,5 @@ pub use knowledge::Buffers;
 pub use monitor::{lookup, open, receive, receive_packet, Answer, Look, PacketAnswer};
 pub use policy::Policy;
 pub use refusal::Refusal;
+pub use rule_text::compile_rule;
 pub use write::{encode_message, encode_policy};

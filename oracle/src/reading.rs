@@ -197,22 +197,35 @@ pub fn valuation_of_many(policy: &Policy, buffers: &Buffers) -> Vec<u8> {
     codes(&rows(policy, &ThreeValued { buffers, e, since: since_walked, until: until_walked }))
 }
 
-/// The verdict sheet over these time points and this valuation: at a minute known busy, kept where the rule's line
-/// reads true and broken where it reads false; blank everywhere else.
+/// The verdict sheet over these time points and this valuation.
 pub fn verdicts(policy: &Policy, e: &[Truth], valuation: &[u8]) -> Vec<u8> {
-    let verdict = |rule: usize, minute: usize| {
-        let busy = e[minute] == Truth::True;
-        let truth = valuation[rule * policy.minutes + minute];
-        if busy && truth == Truth::True.code() {
+    let row = |rule: usize| row_verdicts(e, &valuation[rule * policy.minutes..][..policy.minutes]);
+    policy.rules().into_iter().flat_map(row).collect()
+}
+
+/// A rule's run of the verdict sheet, from its line's: at a minute known busy, kept where the line reads true and broken
+/// where it reads false; blank everywhere else.
+fn row_verdicts(e: &[Truth], row: &[u8]) -> Vec<u8> {
+    let verdict = |(e, truth): (&Truth, &u8)| {
+        let busy = *e == Truth::True;
+        if busy && *truth == Truth::True.code() {
             Verdict::Satisfied
-        } else if busy && truth == Truth::False.code() {
+        } else if busy && *truth == Truth::False.code() {
             Verdict::Violated
         } else {
             Verdict::Unknown
         }
     };
-    let row = |rule: usize| (0..policy.minutes).map(move |minute| verdict(rule, minute).code()).collect::<Vec<u8>>();
-    policy.rules().into_iter().flat_map(row).collect()
+    e.iter().zip(row).map(verdict).map(Verdict::code).collect()
+}
+
+/// The row of an expression without operands over the knowledge, and its run of the verdict sheet. Of the policy only
+/// the sizes count.
+pub fn expression_sheets(policy: &Policy, expression: &Expression, buffers: &Buffers) -> (Vec<u8>, Vec<u8>) {
+    let e = time_points(policy, buffers);
+    let codes = codes(&[row(expression, &[], &ThreeValued { buffers, e: e.clone(), since, until })]);
+    let verdicts = row_verdicts(&e, &codes);
+    (codes, verdicts)
 }
 
 /// How many verdicts stand: "it equals the non-blank cells".
@@ -225,6 +238,11 @@ pub fn standing(verdicts: &[u8]) -> usize {
 /// end is no time point and is not asked for.
 pub fn two_valued(policy: &Policy, trace: &Trace) -> Vec<Vec<bool>> {
     rows(policy, &TwoValued { trace })
+}
+
+/// The two-valued row of an expression without operands.
+pub fn expression_in(expression: &Expression, trace: &Trace) -> Vec<bool> {
+    row(expression, &[], &TwoValued { trace })
 }
 
 struct TwoValued<'a> {

@@ -24,9 +24,13 @@ pub const OUT_OF_RANGE: u8 = 10;
 pub const SHORT_BUFFER: u8 = 11;
 /// Other card: the knowledge was not opened under the policy that is lent.
 pub const OTHER_POLICY: u8 = 12;
+/// Unreadable rule: the text is not of the grammar.
+pub const RULE_SYNTAX: u8 = 13;
+/// Too much rule: too many brackets or terms, a number past its range, or an interval whose ends are crossed.
+pub const RULE_LIMIT: u8 = 14;
 
 /// Why a call was turned away. The place is 0 where document 01's table says 0, and with a
-/// number added later.
+/// number added later unless a place is named there.
 #[derive(Clone, Copy, Debug, PartialEq, Eq)]
 pub struct Refusal {
     pub number: u8,

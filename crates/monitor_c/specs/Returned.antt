@@ -1,15 +1,13 @@
 -- What the exported calls give, for C and Rust: a number, a detail beside it, and the lent buffers.
-use Prim.Native.Nat.{ℕ, zero, suc, _+_, _*_}
+use Prim.Native.Nat.{ℕ}
 use mathlib.Core.Bool.{not}
-use mathlib.Core.List.{List, [], _∷_, _++_}
+use mathlib.Core.List.{List}
 use lib.Dec.{eqb}
-use lib.ListN.{getD}
 use Rattle.refusal.specs.declared.Written.{Written}
 use Rattle.refusal.specs.declared.Written.the-variants as W
 use Rattle.refusal.specs.Writes.{Output}
-use Rattle.policy.specs.declared.LineNumbers.{LineNumbers}
 use Rattle.policy.specs.declared.PolicyNumbers.{PolicyNumbers}
-use Rattle.policy.specs.Text.{numbered}
+use Rattle.line_table.specs.Table.{lines-from}
 use Rattle.message.specs.declared.MessageNumbers.{MessageNumbers}
 use Rattle.refusal.specs.Numbers.{refusal-number, refusal-place}
 use Rattle.monitor.specs.declared.Answer.{Answer}
@@ -90,17 +88,6 @@ pub record Returned-text : Type 0 where
 
 abbrev pub returned-text : Output → Returned-text
 returned-text o = record { number = written-number (o .answer); detail = written-detail (o .answer); out = o .out }
-
--- a line is six numbers, one after another: kind, first, second, lower, upper, and any but 0 for a rule
-abbrev pub line-at : List ℕ → ℕ → LineNumbers
-line-at f i =
-    numbered (getD f (i * 6) 0) (getD f (i * 6 + 1) 0) (getD f (i * 6 + 2) 0) (getD f (i * 6 + 3) 0) (getD f (i * 6 + 4) 0)
-    (not (eqb (getD f (i * 6 + 5) 0) 0))
-
--- the first n lines
-unfoldable pub lines-from : List ℕ → ℕ → List LineNumbers
-lines-from f zero = []
-lines-from f (suc n) = lines-from f n ++ (line-at f n ∷ [])
 
 -- the numbers of a policy, as C lends them: 64 lines, of which there are `count`
 abbrev pub policy-numbers : ℕ → ℕ → ℕ → ℕ → List ℕ → PolicyNumbers

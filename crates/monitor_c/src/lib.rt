@@ -1,29 +1,23 @@
-// The calls of monitor and the two writers for C and Rust, on numbers and slices. Each gives a number, 0 where the call is not refused and else the
+// The calls of monitor, the two writers and the reader of rules for C and Rust, on numbers and slices. Each gives a number, 0 where the call is not refused and else the
 // refusal's, and writes a detail: a refusal's place, how many verdicts stand after a take, the code of the verdict that a look shows, the length of a
 // text that is written. A packet writes two: how many messages were taken, and the refusal's place.
+use line_table::NUMBERS;
+use line_table::lines_from;
 use message::MessageNumbers;
 use monitor::Answer;
 use monitor::Look;
 use monitor::Stop;
 use monitor::Verdict;
-use policy::LineNumbers;
 use policy::PolicyNumbers;
 use refusal::Written;
 ghost use mathlib.Core.Path.{_≡_};
-ghost use Prim.Native.Nat.{_<_};
 ghost use Rattle.origin.specs.Origin.{stamped};
 ghost use Rattle.monitor.specs.State.{lent, open-state, receive, receive-packet};
 ghost use Rattle.monitor.specs.Lookup.{verdict-code, lookup-of};
 ghost use Rattle.policy.specs.Text.{encode-of as encode-policy};
 ghost use Rattle.message.specs.Text.{encode-of as encode-message};
-ghost use Rattle.monitor_c.specs.Returned.{number-of, detail-of, Returned, returned, stop-number, stop-place, Returned-packet, returned-packet, look-number, look-detail, written-number, written-detail, Returned-text, returned-text, line-at, lines-from, policy-numbers, message-numbers};
-
-// How many lines C lends, how many numbers each has, and how many that makes.
-const LINES: usize = 64;
-
-const PER_LINE: usize = 6;
-
-const NUMBERS: usize = 384;
+ghost use Rattle.rule_text.specs.Compiled.{compile-of};
+ghost use Rattle.monitor_c.specs.Returned.{number-of, detail-of, Returned, returned, stop-number, stop-place, Returned-packet, returned-packet, look-number, look-detail, written-number, written-detail, Returned-text, returned-text, policy-numbers, message-numbers};
 
 fn answer_number(answer: Answer) -> u8
     ensures { λ r. ⌜ r ≡ number-of answer ⌝ }
@@ -212,44 +206,6 @@ fn written_detail(written: Written) -> usize
     }
 }
 
-// The six numbers of line i.
-fn line_at(fields: &[u16; NUMBERS], i: usize) -> LineNumbers
-    requires { ⌜ i < 64 ⌝ }
-    ensures { λ r. ⌜ r ≡ line-at (now (fields .entry)) i ⌝ }
-{
-    let at = i * PER_LINE;
-    LineNumbers {
-        kind: fields[at],
-        first: fields[at + 1],
-        second: fields[at + 2],
-        lower: fields[at + 3],
-        upper: fields[at + 4],
-        rule: fields[at + 5] != 0,
-    }
-}
-
-// The numbers of 64 lines.
-fn lines_from(fields: &[u16; NUMBERS]) -> [LineNumbers; LINES]
-    ensures { λ r. ⌜ r ≡ lines-from (now (fields .entry)) 64 ⌝ }
-{
-    let none = LineNumbers {
-        kind: 0,
-        first: 0,
-        second: 0,
-        lower: 0,
-        upper: 0,
-        rule: false,
-    };
-    let mut lines = [none; LINES];
-    let mut i = 0;
-    while i < LINES {
-        let line = line_at(fields, i);
-        lines[i] = line;
-        i += 1;
-    }
-    lines
-}
-
 // 02, request 3: writes a policy.
 #[no_mangle]
 pub extern "C" fn zankezurt_encode_policy(
@@ -304,6 +260,25 @@ pub extern "C" fn zankezurt_encode_message(
         values: values,
     };
     let written = message::encode_numbers(policy, numbers, out);
+    *detail = written_detail(written);
+    written_number(written)
+}
+
+// 02, request 7: writes the policy of a rule typed as text.
+#[no_mangle]
+pub extern "C" fn zankezurt_compile_rule(
+    text: &[u8],
+    propositions: usize,
+    components: usize,
+    minutes: usize,
+    out: &mut [u8],
+    detail: &mut usize,
+) -> u8
+    ensures { λ r. ⌜ _≡_ {A = Returned-text}
+        (record { number = r; detail = now (detail .exit); out = now (out .exit) })
+        (returned-text (compile-of propositions components minutes (now (text .entry)) (now (out .entry)))) ⌝ }
+{
+    let written = rule_text::compile(text, propositions, components, minutes, out);
     *detail = written_detail(written);
     written_number(written)
 }

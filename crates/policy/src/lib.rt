@@ -623,7 +623,7 @@ pub fn decode(s: &[u8]) -> Decoded
 // ---- what is written (02, request 3)
 
 // Is each heading number in range.
-fn heading_good(propositions: usize, components: usize, minutes: usize, count: usize) -> bool
+pub fn heading_good(propositions: usize, components: usize, minutes: usize, count: usize) -> bool
     ensures { λ r. ⌜ r ≡ heading-good propositions components minutes count ⌝ }
 {
     let propositions_good = in_range(1, MOST_PROPOSITIONS, propositions);

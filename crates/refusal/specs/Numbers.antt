@@ -1,11 +1,11 @@
--- 01, "Reasons to turn a call away", with 11 and 12 of 02, requests 3 and 5: the number and the place of each.
+-- 01, "Reasons to turn a call away", with 11 to 14 of 02, requests 3, 5 and 7: the number and the place of each.
 use Prim.Native.Nat.{ℕ, _+_}
 use native.Mathlib.Nat.{zero-add}
 use mathlib.Core.Path.{_≡_, refl}
 use mathlib.Core.List.{[], _∷_}
 use lib.ListN.{getD}
 use Rattle.refusal.specs.declared.Refusal.{Refusal}
-use Rattle.refusal.specs.declared.Refusal.the-variants.{TruncatedPolicy, BadHeading, BadSubformula, RuleCount, BufferSize, CorruptKnowledge, TruncatedMessage, BadMessage, Conflict, OutOfRange, ShortBuffer, OtherPolicy}
+use Rattle.refusal.specs.declared.Refusal.the-variants.{TruncatedPolicy, BadHeading, BadSubformula, RuleCount, BufferSize, CorruptKnowledge, TruncatedMessage, BadMessage, Conflict, OutOfRange, ShortBuffer, OtherPolicy, RuleSyntax, RuleLimit}
 
 abbrev pub refusal-number : Refusal → ℕ
 refusal-number (TruncatedPolicy at) = 1
@@ -20,6 +20,8 @@ refusal-number Conflict = 9
 refusal-number OutOfRange = 10
 refusal-number ShortBuffer = 11
 refusal-number OtherPolicy = 12
+refusal-number (RuleSyntax at) = 13
+refusal-number (RuleLimit at) = 14
 
 -- the place named in the table, and 0 where it names none
 abbrev pub refusal-place : Refusal → ℕ
@@ -35,6 +37,8 @@ refusal-place Conflict = 0
 refusal-place OutOfRange = 0
 refusal-place ShortBuffer = 0
 refusal-place OtherPolicy = 0
+refusal-place (RuleSyntax at) = at
+refusal-place (RuleLimit at) = at
 
 -- 02, request 1: in a packet the "place counted from the packet's start (the slip's first byte for refusals checked after 7; those checked before it
 -- keep their places)", where the slip starts at byte `start`
@@ -51,6 +55,8 @@ packet-place start Conflict = start
 packet-place start OutOfRange = refusal-place OutOfRange
 packet-place start ShortBuffer = refusal-place ShortBuffer
 packet-place start OtherPolicy = refusal-place OtherPolicy
+packet-place start (RuleSyntax at) = refusal-place (RuleSyntax at)
+packet-place start (RuleLimit at) = refusal-place (RuleLimit at)
 
 -- at the packet's start each keeps its place
 pub first-place : (r : Refusal) → packet-place 0 r ≡ refusal-place r
@@ -66,11 +72,13 @@ first-place Conflict = refl
 first-place OutOfRange = refl
 first-place ShortBuffer = refl
 first-place OtherPolicy = refl
+first-place (RuleSyntax at) = refl
+first-place (RuleLimit at) = refl
 
 -- the refusal with this number and place, the numbers in order from 1
 abbrev pub refusal-of : ℕ → ℕ → Refusal
 refusal-of n at =
-    getD (OutOfRange ∷ TruncatedPolicy at ∷ BadHeading at ∷ BadSubformula at ∷ RuleCount ∷ BufferSize ∷ CorruptKnowledge ∷ TruncatedMessage at ∷ BadMessage ∷ Conflict ∷ OutOfRange ∷ ShortBuffer ∷ OtherPolicy ∷ []) n OutOfRange
+    getD (OutOfRange ∷ TruncatedPolicy at ∷ BadHeading at ∷ BadSubformula at ∷ RuleCount ∷ BufferSize ∷ CorruptKnowledge ∷ TruncatedMessage at ∷ BadMessage ∷ Conflict ∷ OutOfRange ∷ ShortBuffer ∷ OtherPolicy ∷ RuleSyntax at ∷ RuleLimit at ∷ []) n OutOfRange
 
 -- it is the only one
 pub only-one : (r : Refusal) → refusal-of (refusal-number r) (refusal-place r) ≡ r
@@ -86,3 +94,5 @@ only-one Conflict = refl
 only-one OutOfRange = refl
 only-one ShortBuffer = refl
 only-one OtherPolicy = refl
+only-one (RuleSyntax at) = refl
+only-one (RuleLimit at) = refl

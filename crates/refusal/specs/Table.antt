@@ -1,7 +1,7 @@
 -- 01, "Reasons to turn a call away": the table's numbers and places, each computed.
 use Prim.Native.Nat.{ℕ, _+_}
 use mathlib.Core.Path.{_≡_, refl}
-use Rattle.refusal.specs.declared.Refusal.the-variants.{TruncatedPolicy, BadHeading, BadSubformula, RuleCount, BufferSize, CorruptKnowledge, TruncatedMessage, BadMessage, Conflict, OutOfRange, ShortBuffer, OtherPolicy}
+use Rattle.refusal.specs.declared.Refusal.the-variants.{TruncatedPolicy, BadHeading, BadSubformula, RuleCount, BufferSize, CorruptKnowledge, TruncatedMessage, BadMessage, Conflict, OutOfRange, ShortBuffer, OtherPolicy, RuleSyntax, RuleLimit}
 use Rattle.refusal.specs.Numbers.{refusal-number, refusal-place, packet-place}
 
 pub record Table : Type 0 where
@@ -29,6 +29,10 @@ pub record Table : Type 0 where
   pub short-paper : (refusal-number ShortBuffer ≡ 11) × (refusal-place ShortBuffer ≡ 0)
   -- 12, other card (02, request 5)
   pub other-card : (refusal-number OtherPolicy ≡ 12) × (refusal-place OtherPolicy ≡ 0)
+  -- 13, unreadable rule: the first byte that no text of the grammar can continue with, or the text's end (02, request 7)
+  pub unreadable-rule : (at : ℕ) → (refusal-number (RuleSyntax at) ≡ 13) × (refusal-place (RuleSyntax at) ≡ at)
+  -- 14, too much rule: where a limit is passed (02, request 7)
+  pub too-much-rule : (at : ℕ) → (refusal-number (RuleLimit at) ≡ 14) × (refusal-place (RuleLimit at) ≡ at)
 
 pub table : Table
 table = record {
@@ -44,6 +48,8 @@ table = record {
   off-the-sheet = (refl, refl);
   short-paper = (refl, refl);
   other-card = (refl, refl);
+  unreadable-rule = λ at. (refl, refl);
+  too-much-rule = λ at. (refl, refl);
 }
 
 -- 02, request 1: where a refusal stands in a packet whose message starts at byte `start`

@@ -29,6 +29,10 @@ pub enum Refusal {
     ShortBuffer,
     // 12, other card (02, request 5): the lent state was not opened under this policy
     OtherPolicy,
+    // 13, unreadable rule (02, request 7): no text of the grammar goes on so
+    RuleSyntax(usize),
+    // 14, too much rule (02, request 7): a limit is passed there
+    RuleLimit(usize),
 }
 
 // What a check answers, or a call's checks one after another: they let it pass, or the first that fails refuses it.
@@ -60,6 +64,8 @@ pub fn number(r: Refusal) -> u8
         Refusal::OutOfRange => 10,
         Refusal::ShortBuffer => 11,
         Refusal::OtherPolicy => 12,
+        Refusal::RuleSyntax(_) => 13,
+        Refusal::RuleLimit(_) => 14,
     }
 }
 
@@ -80,6 +86,8 @@ pub fn place(r: Refusal) -> usize
         Refusal::OutOfRange => 0,
         Refusal::ShortBuffer => 0,
         Refusal::OtherPolicy => 0,
+        Refusal::RuleSyntax(at) => at,
+        Refusal::RuleLimit(at) => at,
     }
 }
 
@@ -102,5 +110,7 @@ pub fn place_in_packet(r: Refusal, start: usize) -> usize
         Refusal::OutOfRange => place(r),
         Refusal::ShortBuffer => place(r),
         Refusal::OtherPolicy => place(r),
+        Refusal::RuleSyntax(_) => place(r),
+        Refusal::RuleLimit(_) => place(r),
     }
 }

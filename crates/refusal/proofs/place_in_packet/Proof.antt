@@ -78,6 +78,18 @@ enum-told-11 c = search needs
 place-requires-9 : tie.Need-place-requires-9
 place-requires-9 c κs = search needs
 
+enum-told-12 : tie.Need-enum-told-12
+enum-told-12 c = search needs
+
+place-requires-10 : tie.Need-place-requires-10
+place-requires-10 c κs = search needs
+
+enum-told-13 : tie.Need-enum-told-13
+enum-told-13 c = search needs
+
+place-requires-11 : tie.Need-place-requires-11
+place-requires-11 c κs = search needs
+
 returns : tie.Need-returns
 returns c = search needs
 
@@ -114,6 +126,12 @@ returns-11 c = search needs
 returns-12 : tie.Need-returns-12
 returns-12 c = search needs
 
+returns-13 : tie.Need-returns-13
+returns-13 c = search needs
+
+returns-14 : tie.Need-returns-14
+returns-14 c = search needs
+
 pub place-in-packet-spec : {M : Type 1} → statement M
 place-in-packet-spec =
     tie.close
@@ -140,6 +158,10 @@ place-in-packet-spec =
     place-requires-8
     enum-told-11
     place-requires-9
+    enum-told-12
+    place-requires-10
+    enum-told-13
+    place-requires-11
     returns
     returns-2
     returns-3
@@ -151,4 +173,6 @@ place-in-packet-spec =
     returns-9
     returns-10
     returns-11
-    returns-12)
+    returns-12
+    returns-13
+    returns-14)

@@ -1,9 +1,9 @@
--- Each turn fills in the next line (`Lending`). Assumes nothing.
+-- Each turn fills in the next line (`Filling`). Assumes nothing.
 use borrow.Author.Needs.{needs}
 use Prim.Native.Nat.{_-_}
-use Rattle.monitor_c.proofs.Lending.{Filled, none-filled, one-filled, all-filled}
-use Rattle.monitor_c.proofs.lines_from.Statement.{statement}
-use Rattle.monitor_c.proofs.lines_from.Tie as tie
+use Rattle.line_table.proofs.Filling.{Filled, none-filled, one-filled, all-filled}
+use Rattle.line_table.proofs.lines_from.Statement.{statement}
+use Rattle.line_table.proofs.lines_from.Tie as tie
 
 abbrev Inv-loop : tie.InvT-loop
 Inv-loop fields lines₀ i₀ lines i = Filled fields lines i

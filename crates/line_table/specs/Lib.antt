@@ -1,0 +1,3 @@
+-- A policy's lines as one array of numbers.
+pub mod Table
+pub mod Laws
