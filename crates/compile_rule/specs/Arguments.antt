@@ -1,5 +1,5 @@
 -- A number that is typed in decimal, as an argument.
-use Rattle.std.specs.Prelude.{ℕ, ◌+◌, ◌*◌, ◌%◌, ◌≡◌, refl, Bool, ◌&&◌, List, ltb, length}
+use Rattle.std.specs.Prelude.{ℕ, ◌+◌, ◌*◌, ◌%◌, Bool, ◌&&◌, List, ltb, length}
 use Rattle.compile_rule.specs.declared.arguments.Typed.{Typed}
 use Rattle.compile_rule.specs.Choices.{choose, digit, run}
 
@@ -12,8 +12,3 @@ all_digits whole c = whole && digit c
 
 unfoldable pub number : List ℕ → Typed
 number digits = record { whole = run all_digits (ltb 0 (length digits)) digits; value = run with_digit 0 digits }
-
-pub numbered : (digits : List ℕ) (whole : Bool) (value : ℕ) → whole ≡ run all_digits (ltb 0 (length digits)) digits → value ≡ run with_digit 0 digits
-    → ◌≡◌ {A = Typed} (record { whole = whole; value = value }) (number digits)
-unfolding number
-numbered digits whole value e f = rw (e, f) refl

@@ -4,4 +4,3 @@ pub mod Arguments
 pub mod Line
 pub mod Begun
 pub mod Words
-pub mod Examples

@@ -1,30 +1,10 @@
 -- Which words are told of a place: what the grammar expects there (13), or which limit is passed (14).
-use Rattle.std.specs.Prelude.{ℕ, ◌+◌, ◌-◌, ◌%◌, ◌≤◌, ◌<◌, ◌≡◌, Bool, true, false, ◌&&◌, not, List, eqb, ltb, leb, length, take, get_or}
-use Rattle.std.proofs.Common.{arith, sym, ◌∙◌}
-use Rattle.std.proofs.Math.Decide.{dec_lt}
-use Rattle.std.proofs.Math.Path.{ap}
+use Rattle.std.specs.Prelude.{ℕ, ◌-◌, ◌%◌, ◌≤◌, ◌<◌, ◌≡◌, Bool, true, false, ◌&&◌, not, List, eqb, ltb, leb, length, take, get_or}
 use Rattle.compile_rule.specs.declared.beginning.Expected.{Expected}
 use Rattle.compile_rule.specs.declared.beginning.Expected.TheVariants as E
 use Rattle.compile_rule.specs.declared.beginning.Beginning.{Beginning}
 use Rattle.compile_rule.specs.declared.reason.Reason.{Reason}
-use Rattle.compile_rule.specs.declared.reason.Reason.TheVariants.{
-  Term,
-  True,
-  Not,
-  Space,
-  Number,
-  LeadingZero,
-  End,
-  Close,
-  Joint,
-  Or,
-  And,
-  Since,
-  Until,
-  Bracket,
-  Comma,
-  CloseInterval,
-}
+use Rattle.compile_rule.specs.declared.reason.Reason.TheVariants.{Term, True, Not, Space, Number, LeadingZero, End, Close, Joint, Or, And, Since, Until, Bracket, Comma, CloseInterval}
 use Rattle.compile_rule.specs.declared.excess.Excess.{Excess}
 use Rattle.compile_rule.specs.declared.excess.Excess.TheVariants.{Mark, Bound, Terms, Nesting, Interval}
 use Rattle.compile_rule.specs.Choices.{choose, digit}
@@ -98,28 +78,3 @@ pub record DigitsEnd (text : List ℕ) (at end : ℕ) : Type 0 where
 -- printed as it is, or as a question mark
 unfoldable pub shown : ℕ → ℕ
 shown byte = choose (ltb byte 32) 63 (choose (ltb 126 byte) 63 byte)
-
--- ---- laws
-
--- what an arm answers is the answer
-module _ (text : List ℕ) (at : ℕ) (b : Beginning) (e : Expected) (known : b ≡ begun (take at text)) (told : b.expected ≡ e) where
-  pub reasoned : (r : Reason) → r ≡ reason_by e text at b → r ≡ reason_at text at
-  unfolding reason_at
-  reasoned r g =
-      g ∙ ap (λ (e : Expected). reason_by e text at b) (sym told) ∙ ap (λ (b : Beginning). reason_by b.expected text at b) known
-
-  pub limited : (r : Excess) → r ≡ limit_by e text at b → r ≡ limit_at text at
-  unfolding limit_at
-  limited r g =
-      g ∙ ap (λ (e : Expected). limit_by e text at b) (sym told) ∙ ap (λ (b : Beginning). limit_by b.expected text at b) known
-
-pub digits_more : (text : List ℕ) (at end : ℕ) → ((k : ℕ) → at ≤ k → k < end → digit (get_or text k 0) ≡ true) → digit (get_or text end 0) ≡ true
-    → (k : ℕ) → at ≤ k → k < end + 1 → digit (get_or text k 0) ≡ true
-digits_more text at end before here k from h = go (dec_lt k end)
-  where
-    go : Dec (k < end) → digit (get_or text k 0) ≡ true
-    go (yes l) = before k from l
-    go (no l) = ap (λ (k : ℕ). digit (get_or text k 0)) (same k end h l) ∙ here
-      where
-        same : (k end : ℕ) → k < end + 1 → (k < end → ⊥) → k ≡ end
-        same k end h l = omega arith

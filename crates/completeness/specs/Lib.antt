@@ -1,6 +1,5 @@
 -- When a record is complete, what its sheet then shows, and which messages make it so.
 pub mod Complete
 pub mod Pins
-pub mod Stands
 pub mod Reports
 pub mod Told

@@ -11,11 +11,12 @@ use lib.Dec.{eqb}
 use lib.ListN.{length, get_or, take, drop, length-take, length-drop}
 use lib.Seq.{get_or-take, get_or-drop}
 use Rattle.mtl.specs.Algebra.{two, all}
-use Rattle.decide.specs.Laws.{agree, same}
+use Rattle.decide.proofs.Laws.{agree, same}
 use Rattle.policy.specs.declared.Sizes.{Sizes}
 use Rattle.knowledge.specs.Knowledge.{none, run_of, Equal, Apart, Steady, steady, free_place, word_sound, number, sound}
 use Rattle.knowledge.specs.Run.{cell, held, told, put, may}
-use Rattle.knowledge.specs.Runs.{steady_decides, level_decides, full_decides, Within, steady_less, across_more}
+use Rattle.knowledge.specs.Runs.{Within}
+use Rattle.knowledge.proofs.Runs.{steady_decides, level_decides, full_decides, steady_less, across_more}
 
 pub one_run : (c k : ℕ) → (c + 1) * k ≡ c * k + k
 one_run c k = rw add-one (suc-mul c k)

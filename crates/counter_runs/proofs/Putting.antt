@@ -6,10 +6,10 @@ use Prim.Native.Nat.{ℕ, ◌+◌, ◌-◌, ◌≤◌, ◌<◌}
 use native.Mathlib.Decide.{ℕ_discrete}
 use native.Mathlib.Omega.{arith}
 use borrow.Author.Tests.{eq-eqb, ne_eqb}
-use Rattle.rows.specs.Laws.{lt_or_le}
+use Rattle.rows.proofs.Laws.{lt_or_le}
 use Rattle.knowledge.specs.Knowledge.{none, Follow, Steady}
 use Rattle.knowledge.specs.Run.{Next, Previous, put, May}
-use Rattle.knowledge.specs.Runs.{follow_up, steady_less}
+use Rattle.knowledge.proofs.Runs.{follow_up, steady_less}
 use Rattle.counter_runs.proofs.Walk.{follow_more}
 
 pub at_place : (f : ℕ → ℕ) (p v : ℕ) → put f p v p ≡ v

@@ -8,13 +8,14 @@ use native.Mathlib.Nat.{eq-or-lt_of_le}
 use native.Mathlib.Decide.{dec_lt, ℕ_discrete}
 use native.Mathlib.Omega.{arith}
 use lib.Dec.{ltb, eqb}
-use Rattle.decide.specs.Laws.{agree, same, less, equal, both}
+use Rattle.decide.proofs.Laws.{agree, same, less, equal, both}
 use Rattle.knowledge.specs.declared.Found.{Found}
 use Rattle.knowledge.specs.Knowledge.{none, Across, Equal, Apart, level, full}
 use Rattle.knowledge.specs.Run.{Back, Forth, Previous}
-use Rattle.knowledge.specs.Runs.{level_decides, full_decides}
+use Rattle.knowledge.proofs.Runs.{level_decides, full_decides}
 use Rattle.knowledge.specs.Outwards.{NearestBefore, NearestAfter, NoneBefore, NoneAfter, places_read, NeverFalls, NeverJumps, Outwards}
-use Rattle.knowledge.specs.Nearest.{read_from_to, Narrows, level_narrows, full_narrows, none_before, none_after, by_nearest}
+use Rattle.knowledge.specs.Nearest.{Narrows}
+use Rattle.knowledge.proofs.Nearest.{read_from_to, level_narrows, full_narrows, none_before, none_after, by_nearest}
 
 -- none of the places from `from` to before i is known
 abbrev pub Unknown : (ℕ → ℕ) → ℕ → ℕ → Type 0

@@ -5,10 +5,10 @@ use mathlib.Core.Logic.{⊎_elim}
 use Prim.Native.Nat.{ℕ, suc, ◌+◌, ◌-◌, ◌≤◌, ◌<◌}
 use native.Mathlib.Nat.{eq-or-lt_of_le}
 use native.Mathlib.Omega.{arith}
-use Rattle.rows.specs.Laws.{lt_or_le}
+use Rattle.rows.proofs.Laws.{lt_or_le}
 use Rattle.knowledge.specs.Knowledge.{none, Follow, Steady}
 use Rattle.knowledge.specs.Run.{Next}
-use Rattle.knowledge.specs.Runs.{follow_up}
+use Rattle.knowledge.proofs.Runs.{follow_up}
 
 -- the run is steady up to p, which is known
 pub record Walked (f : ℕ → ℕ) (p : ℕ) : Type 0 where

@@ -1,3 +1,2 @@
 -- Tests and what they decide.
 pub mod Decide
-pub mod Laws

@@ -7,9 +7,10 @@ use native.Mathlib.Numerals.{add-one}
 use lib.Count.{count_trailing_zeros}
 use lib.Pow.{pow_mono, pow_pos}
 use Rattle.bits.specs.Digits.{digit, below, gathered}
-use Rattle.bits.specs.Packed.{below_le, below_clear, below_set}
-use Rattle.bits.specs.Gathered.{gathered_clear, gathered_set, gathered_lt}
-use Rattle.bits.specs.Places.{weight, Ahead, all_ahead, none_ahead, Lowest, lowest}
+use Rattle.bits.proofs.Packed.{below_le, below_clear, below_set}
+use Rattle.bits.proofs.Gathered.{gathered_clear, gathered_set, gathered_lt}
+use Rattle.bits.specs.Places.{Ahead, Lowest}
+use Rattle.bits.proofs.Places.{weight, all_ahead, none_ahead, lowest}
 
 -- j values are packed, and `out` has them
 pub record Gathering (map values rest j out : ℕ) : Type 0 where

@@ -1,3 +1,5 @@
 pub mod Present
 pub mod Putting
 pub mod Gathering
+pub mod Laws
+pub mod Texts

@@ -8,7 +8,7 @@ use lib.ListN.{length, set, drop, length-set, length-append}
 use lib.Seq.{sets, length-sets, sets-eq}
 use Rattle.encoding.specs.Layout.{takes}
 use Rattle.encoding.specs.Text.{bytes_of, field_text}
-use Rattle.encoding.specs.Texts.{length_bytes, length_field}
+use Rattle.encoding.proofs.Texts.{length_bytes, length_field}
 
 -- a number that is not 0 takes its bytes, and is written in them
 pub takes_some : (n w : ℕ) → (n ≡ 0 → ⊥) → takes n w ≡ w

@@ -1,6 +1,5 @@
 -- What the two formats share.
 pub mod Fields
 pub mod Layout
-pub mod Laws
 pub mod Text
 pub mod Texts

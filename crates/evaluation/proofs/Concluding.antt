@@ -11,14 +11,15 @@ use lib.ListN.{get_or, length, take, drop, length-append, length-drop}
 use lib.Seq.{length-take-le, get_or-take, get_or-drop, take_at}
 use Rattle.kleene.specs.Truth.{true3, false3, unknown, code_of}
 use Rattle.rows.specs.Over.{Over}
-use Rattle.rows.specs.Laws.{untouched, two}
-use Rattle.rows.specs.Grid.{table, table_length, table_at, row_of, place_of, in_grid, next_row}
-use Rattle.rows.specs.Parts.{put_in, from_front}
+use Rattle.rows.proofs.Laws.{untouched, two}
+use Rattle.rows.specs.Grid.{table}
+use Rattle.rows.proofs.Grid.{table_length, table_at, row_of, place_of, in_grid, next_row}
+use Rattle.rows.proofs.Parts.{put_in, from_front}
 use Rattle.policy.specs.declared.Policy.{Policy}
 use Rattle.policy.specs.declared.Sizes.{Sizes}
 use Rattle.policy.specs.Format.{no_line, rule_lines}
 use Rattle.policy.specs.Proper.{Proper}
-use Rattle.policy.specs.RuleLines.{rule_more, rule_skip, rule_under, rule_at}
+use Rattle.policy.proofs.RuleLines.{rule_more, rule_skip, rule_under, rule_at}
 use Rattle.knowledge.specs.Knowledge.{Knowledge, is_point, is_none, point_known}
 use Rattle.valuation.specs.Sheets.{value, verdict, valuation_of, verdicts_of, standing}
 use Rattle.valuation.specs.Rows.{Points}

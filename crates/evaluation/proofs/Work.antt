@@ -9,19 +9,21 @@ use mathlib.Core.List.{List, ◌++◌}
 use lib.ListN.{get_or, length, take, drop, length-append, length-take, length-drop, get_or-eq_default}
 use lib.Seq.{length-take-le, get_or-take, get_or-drop, drop-drop}
 use borrow.Author.Tests.{lt-ltb, le-ltb}
-use Rattle.kleene.specs.Truth.{Truth, unknown, true3, not3, or3, and3, code_of, value_of, value_of_code}
-use Rattle.kleene.specs.Tests.{implies_and}
+use Rattle.kleene.specs.Truth.{Truth, unknown, true3, not3, or3, and3, code_of, value_of}
+use Rattle.kleene.proofs.Truth.{value_of_code}
+use Rattle.kleene.proofs.Tests.{implies_and}
 use Rattle.rows.specs.Over.{Over}
-use Rattle.rows.specs.Laws.{two}
-use Rattle.rows.specs.Grid.{row_of, place_of, next_row}
-use Rattle.rows.specs.Parts.{put_in}
+use Rattle.rows.proofs.Laws.{two}
+use Rattle.rows.proofs.Grid.{row_of, place_of, next_row}
+use Rattle.rows.proofs.Parts.{put_in}
 use Rattle.mtl.specs.Algebra.{three}
 use Rattle.mtl.specs.declared.Formula.{Formula}
 use Rattle.mtl.specs.declared.Formula.TheVariants.{True, Proposition, Not, Or, Since, Until, And, Implies, Once, Historically, Eventually, Always}
-use Rattle.mtl.specs.Abbreviations.{abbreviation, leaves_map}
+use Rattle.mtl.specs.Abbreviations.{abbreviation}
+use Rattle.mtl.proofs.Abbreviations.{leaves_map}
 use Rattle.mtl.specs.Syntax.{Earlier, Proposes}
 use Rattle.mtl.specs.Reading.{point, seen, meaning}
-use Rattle.mtl.specs.Unroll.{unroll, reading_past}
+use Rattle.mtl.proofs.Unroll.{unroll, reading_past}
 use Rattle.policy.specs.declared.Sizes.{Sizes}
 use Rattle.policy.specs.declared.Policy.{Policy}
 use Rattle.policy.specs.Proper.{Proper, formula_at}

@@ -1,1 +1,4 @@
 pub mod Table
+pub mod Rank
+pub mod Tests
+pub mod Truth

@@ -8,7 +8,7 @@ use native.Mathlib.Nat.{eq-or-lt_of_le, le_of_suc-le-suc, not-suc-le-zero}
 use lib.Dec.{eqb}
 use lib.ListN.{get_or}
 use borrow.Author.Tests.{eqb-true}
-use Rattle.logic.specs.Bools.{both}
+use Rattle.logic.proofs.Bools.{both}
 use Rattle.kleene.specs.Truth.{code_of, value_of, not3, or3}
 
 -- f passes at every number below n

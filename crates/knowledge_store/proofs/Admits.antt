@@ -7,17 +7,17 @@ use mathlib.Core.Path.{◌≡◌, refl, sym, ap, subst, ◌∙◌}
 use mathlib.Core.Bool.{Bool, true, false, ◌&&◌}
 use mathlib.Core.Logic.{inl, inr}
 use lib.ListN.{get_or}
-use Rattle.logic.specs.Bools.{pair}
+use Rattle.logic.proofs.Bools.{pair}
 use Rattle.decide.specs.Decide.{Decides}
-use Rattle.decide.specs.Laws.{agree, same, both}
+use Rattle.decide.proofs.Laws.{agree, same, both}
 use Rattle.policy.specs.declared.Sizes.{Sizes}
 use Rattle.message.specs.declared.Event.TheVariants.{Observation, Alive}
 use Rattle.message.specs.Fixes.{Message, FixesNumber, Fits}
 use Rattle.knowledge.specs.Knowledge.{Steady, steady, free_place, words_agree, Knowledge, number, Sound, sound, Sized, stored, free, admits}
-use Rattle.knowledge.specs.Laws.{Free, free_law, sound_law}
-use Rattle.knowledge.specs.Store.{NumberCases, number_hit, number_either, stored_sound}
+use Rattle.knowledge.proofs.Laws.{Free, free_law, sound_law}
+use Rattle.knowledge.proofs.Store.{NumberCases, number_hit, number_either, stored_sound}
 use Rattle.knowledge.specs.Run.{sent, put, may, may_observe}
-use Rattle.knowledge.specs.Runs.{steady_decides, steady_less}
+use Rattle.knowledge.proofs.Runs.{steady_decides, steady_less}
 use Rattle.counter_runs.proofs.Putting.{at_place, other}
 use Rattle.knowledge_store.proofs.Pair.{together, to_one, to_next}
 

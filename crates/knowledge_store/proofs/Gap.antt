@@ -7,14 +7,15 @@ use mathlib.Core.Logic.{⊎_elim, ◌↔◌}
 use Prim.Native.Nat.{ℕ, suc, ◌+◌, ◌-◌, ◌≤◌, ◌<◌}
 use native.Mathlib.Decide.{dec_lt, ℕ_discrete}
 use native.Mathlib.Omega.{arith}
-use Rattle.decide.specs.Laws.{agree, same, is_false}
-use Rattle.decide.specs.Laws.{none as denied}
+use Rattle.decide.proofs.Laws.{agree, same, is_false}
+use Rattle.decide.proofs.Laws.{none as denied}
 use Rattle.knowledge.specs.declared.Search.{Search}
 use Rattle.knowledge.specs.Knowledge.{none, Steady, Across, Equal, Apart, Level, Full, level, full, says}
 use Rattle.knowledge.specs.Run.{Next, told}
-use Rattle.knowledge.specs.Runs.{level_decides, full_decides, not_both}
+use Rattle.knowledge.proofs.Runs.{level_decides, full_decides, not_both}
 use Rattle.knowledge.specs.Outwards.{NearestBefore, NearestAfter, NoneBefore, NoneAfter, full_gap, Outwards}
-use Rattle.knowledge.specs.Nearest.{Narrows, steady_never_falls, steady_never_jumps, level_narrows, full_narrows, none_after, by_nearest}
+use Rattle.knowledge.specs.Nearest.{Narrows}
+use Rattle.knowledge.proofs.Nearest.{steady_never_falls, steady_never_jumps, level_narrows, full_narrows, none_after, by_nearest}
 
 -- two claims that are the same of two minutes
 told_as : (f : ℕ → ℕ) (m t u : ℕ) → (Full f m t ↔ Full f m u) → (Level f m t ↔ Level f m u) → told f m t ≡ told f m u

@@ -12,7 +12,7 @@ use Rattle.message.specs.declared.Event.TheVariants.{Observation, Alive}
 use Rattle.message.specs.Fixes.{Fits}
 use Rattle.knowledge.specs.Knowledge.{number, Sound, Sized, admits, Steady, words_agree}
 use Rattle.knowledge.specs.Run.{cell, held, sent, may, may_observe}
-use Rattle.knowledge.specs.Runs.{runs_of}
+use Rattle.knowledge.proofs.Runs.{runs_of}
 use Rattle.counter_runs.proofs.Parts.{part_long, part_is_steady, part_may}
 use Rattle.knowledge_store.proofs.Admits.{admits_observation, admits_alive}
 

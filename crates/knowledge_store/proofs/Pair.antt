@@ -6,7 +6,7 @@ use native.Mathlib.Decide.{ℕ_discrete}
 use native.Mathlib.Omega.{arith}
 use Rattle.knowledge.specs.Knowledge.{none, Follow, Steady}
 use Rattle.knowledge.specs.Run.{put}
-use Rattle.knowledge.specs.Runs.{follow_up, steady_less}
+use Rattle.knowledge.proofs.Runs.{follow_up, steady_less}
 use Rattle.counter_runs.proofs.Putting.{at_place, other}
 
 module _ (f : ℕ → ℕ) (n t v w : ℕ) (apart : w ≡ suc v) where

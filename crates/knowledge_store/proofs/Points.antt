@@ -9,15 +9,16 @@ use native.Mathlib.Numerals.{add-one}
 use native.Mathlib.Decide.{dec_lt}
 use native.Mathlib.Omega.{arith}
 use lib.ListN.{get_or}
-use Rattle.kleene.specs.Truth.{Truth, code_of, value_of, or3, read_back}
+use Rattle.kleene.specs.Truth.{Truth, code_of, value_of, or3}
+use Rattle.kleene.proofs.Truth.{read_back}
 use Rattle.mtl.specs.Algebra.{any, all}
 use Rattle.mtl.specs.Algebra as algebra
 use Rattle.rows.specs.Over.{Over}
-use Rattle.rows.specs.Laws.{two}
+use Rattle.rows.proofs.Laws.{two}
 use Rattle.policy.specs.declared.Sizes.{Sizes}
 use Rattle.knowledge.specs.Knowledge.{Knowledge, number, is_point, is_none, point_known, run_of, level, full, says}
 use Rattle.knowledge_store.proofs.Merging.{or_says, code_below}
-use Rattle.logic.specs.Bools.{de_morgan}
+use Rattle.logic.proofs.Bools.{de_morgan}
 use Rattle.knowledge.specs.Run.{Codes, joined, told}
 
 pub stretch : (f : ℕ → ℕ) (m mid hi : ℕ) (old row new : List ℕ) (x : Truth) → Over (joined old (told f m)) 0 mid old row

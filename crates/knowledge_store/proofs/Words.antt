@@ -5,11 +5,11 @@ use mathlib.Core.Path.{◌≡◌, refl, sym, ap, ◌∙◌}
 use mathlib.Core.Bool.{Bool, true, false, not, ◌&&◌, ◌||◌, xor, beq, true≢false}
 use lib.Bits.{bit_and, bit_or, bit_xor, and_lt, xor_lt}
 use lib.Dec.{ltb, eqb}
-use Rattle.decide.specs.Laws.{is_false, agree, same, itself, less, equal, none, each, each_same}
+use Rattle.decide.proofs.Laws.{is_false, agree, same, itself, less, equal, none, each, each_same}
 use Rattle.bits.specs.Bits.{bit}
-use Rattle.bits.specs.Masks.{bit-bit_and, bit-bit_xor, no_bits, low_bits, or_inside}
+use Rattle.bits.proofs.Masks.{bit-bit_and, bit-bit_xor, no_bits, low_bits, or_inside}
 use Rattle.knowledge.specs.Knowledge.{word_sound, words_agree}
-use Rattle.knowledge.specs.Laws.{word_decides}
+use Rattle.knowledge.proofs.Laws.{word_decides}
 
 module _ (p known values : ℕ) (h : known < 2 ^ 32) (k : values < 2 ^ 32) where
   pub word_fails : (bit_or known values ≡ known → ⊥) → word_sound p known values ≡ false

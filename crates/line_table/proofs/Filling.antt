@@ -6,10 +6,10 @@ use mathlib.Core.Path.{◌≡◌, refl, ap, ap₂, ◌∙◌}
 use mathlib.Core.List.{List, ◌++◌, append-nil}
 use lib.ListN.{set, replicate}
 use Rattle.policy.specs.declared.LineNumbers.{LineNumbers}
-use Rattle.policy.specs.Table.{fill_one}
+use Rattle.policy.proofs.Table.{fill_one}
 use Rattle.policy.specs.Text.{no_numbers}
 use Rattle.line_table.specs.Table.{line_at, lines_from}
-use Rattle.line_table.specs.Laws.{from_length}
+use Rattle.line_table.proofs.Laws.{from_length}
 
 -- the first i lines are filled in, and the rest is padding
 pub record Filled (f : List ℕ) (lines : List LineNumbers) (i : ℕ) : Type 0 where

@@ -1,3 +1,2 @@
 -- A policy's lines as one array of numbers.
 pub mod Table
-pub mod Laws

@@ -1,2 +1,1 @@
 -- Laws of Bool.
-pub mod Bools

@@ -1,6 +1,5 @@
 -- The messages of 01's small shift, under K's sizes: one mark, one station, four minutes.
-use Rattle.std.specs.Prelude.{◌≡◌, refl, ℕ, List, [], ◌∷◌, ◌++◌, true, false}
-use Rattle.bits.specs.Digits.{digit, below, expanded, gathered}
+use Rattle.std.specs.Prelude.{◌≡◌, ℕ, List, [], ◌∷◌, ◌++◌, true, false}
 use Rattle.refusal.specs.declared.Refusal.TheVariants.{TruncatedMessage, BadMessage, ShortBuffer}
 use Rattle.policy.specs.declared.Sizes.{Sizes}
 use Rattle.refusal.specs.declared.Answer.TheVariants.{Accepted}
@@ -10,8 +9,8 @@ use Rattle.message.specs.declared.MessageNumbers.{MessageNumbers}
 use Rattle.message.specs.declared.Event.{Event}
 use Rattle.message.specs.declared.Event.TheVariants.{Observation, Alive}
 use Rattle.message.specs.declared.Decoded.{Decoded}
-use Rattle.message.specs.Format.{component_of, minute_of, number_of, named_of, packed_of, fields_of, length_of, good_alive, good_observation, all_written, good_fields, event_in, answer_of, refused_with, decode_of, first_answer, first_of, used_of, rest_of, messages_of}
-use Rattle.message.specs.Text.{text_of, numbers_good, writing_checks, encode_under}
+use Rattle.message.specs.Format.{refused_with, decode_of, first_of, rest_of, messages_of}
+use Rattle.message.specs.Text.{text_of, encode_under}
 
 abbrev sizes : Sizes
 sizes = record { propositions = 1; components = 1; minutes = 4 }
@@ -29,10 +28,6 @@ pub record SmallShift : Type 0 where
   pub alive : decode_of sizes (0x10 ∷ []) ≡ says (Alive 0 0)
   pub no_number : decode_of sizes (0x00 ∷ []) ≡ refused_with BadMessage
   pub empty : decode_of sizes [] ≡ refused_with (TruncatedMessage 0)
-
-pub small_shift : SmallShift
-unfolding decode_of answer_of event_in good_fields all_written good_observation good_alive length_of fields_of packed_of named_of number_of minute_of component_of expanded below digit
-small_shift = record { a = refl; b = refl; d = refl; alive = refl; no_number = refl; empty = refl }
 
 -- One message with every field, and one for each rule that a message can break.
 abbrev larger : Sizes
@@ -54,21 +49,6 @@ pub record Rules : Type 0 where
   pub spare_value : decode_of sizes (0x0C ∷ 0x01 ∷ 0x00 ∷ 0x01 ∷ 0x00 ∷ 0x00 ∷ 0x00 ∷ 0x02 ∷ []) ≡ refused_with BadMessage
   pub spare_bit : decode_of sizes (0x30 ∷ []) ≡ refused_with BadMessage
   pub written_zero : decode_of sizes (0x12 ∷ 0x00 ∷ 0x00 ∷ []) ≡ refused_with BadMessage
-
-pub rules : Rules
-unfolding decode_of answer_of event_in good_fields all_written good_observation good_alive length_of fields_of packed_of named_of number_of minute_of component_of expanded below digit
-rules = record {
-  every = refl;
-  late = refl;
-  alive_last = refl;
-  alive_late = refl;
-  alive_named = refl;
-  station = refl;
-  mark = refl;
-  spare_value = refl;
-  spare_bit = refl;
-  written_zero = refl;
-}
 
 -- 02, request 1: packets of the small shift's messages.
 abbrev A : List ℕ
@@ -92,21 +72,6 @@ pub record Packets : Type 0 where
   pub three : messages_of (A ++ D ++ A) ≡ A ∷ D ∷ A ∷ []
   pub cut : messages_of (D ++ (0x0C ∷ 0x01 ∷ [])) ≡ D ∷ (0x0C ∷ 0x01 ∷ []) ∷ []
   pub empty : messages_of [] ≡ []
-
-pub packets : Packets
-unfolding first_of first_answer used_of messages_of decode_of answer_of event_in good_fields all_written good_observation good_alive length_of fields_of packed_of named_of number_of minute_of component_of expanded below digit
-packets = record {
-  first = refl;
-  first_rest = refl;
-  bad = refl;
-  bad_rest = refl;
-  bad_alone = refl;
-  early = refl;
-  early_rest = refl;
-  three = refl;
-  cut = refl;
-  empty = refl;
-}
 
 -- 02, request 3: messages from their numbers.
 abbrev observation : ℕ → ℕ → ℕ → ℕ → ℕ → MessageNumbers
@@ -143,25 +108,3 @@ pub record Texts : Type 0 where
   pub mark : answers (observation 0 0 1 2 0) ≡ Refused BadMessage
   pub unnamed : answers (observation 0 0 1 0 1) ≡ Refused BadMessage
   pub alive_named : answers (alive_at 0 0 1) ≡ Refused BadMessage
-
-pub texts : Texts
-unfolding gathered below digit text_of numbers_good writing_checks encode_under
-texts = record {
-  a = refl;
-  d = refl;
-  alive = refl;
-  every = refl;
-  nine = refl;
-  longer = refl;
-  short = refl;
-  station = refl;
-  station_256 = refl;
-  late = refl;
-  alive_late = refl;
-  uncounted = refl;
-  most = refl;
-  past_most = refl;
-  mark = refl;
-  unnamed = refl;
-  alive_named = refl;
-}

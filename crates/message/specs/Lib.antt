@@ -4,11 +4,6 @@ pub mod Encoded
 pub mod Fixes
 pub mod Proper
 pub mod Packet
-pub mod Reads
-pub mod Laws
-pub mod First
 pub mod Text
 pub mod Written
-pub mod Refusals
-pub mod RoundTrip
 pub mod Examples

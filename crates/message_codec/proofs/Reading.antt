@@ -11,7 +11,7 @@ use borrow.Author.Rules.{part_to_end}
 use borrow.Author.Tests.{le-leb, lt-leb, leb-true, leb-false}
 use Rattle.encoding.specs.Fields.{has, size, long_of, field8}
 use Rattle.encoding.specs.Layout.{value_at}
-use Rattle.encoding.specs.Laws.{size_most}
+use Rattle.encoding.proofs.Laws.{size_most}
 use Rattle.refusal.specs.declared.Answer.TheVariants.{Accepted}
 use Rattle.message.specs.declared.Fields.{Fields}
 use Rattle.message.specs.declared.Event.{Event}

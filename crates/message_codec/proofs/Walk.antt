@@ -5,8 +5,9 @@ use native.Mathlib.Nat.{pow-suc, div-one, div-div-eq-div-mul, lt_of_lt_of_le}
 use lib.Count.{count_trailing_zeros}
 use lib.Pow.{pow_mono, pow_pos}
 use Rattle.bits.specs.Digits.{digit, below, expanded}
-use Rattle.bits.specs.Packed.{below_clear, below_set, expanded_clear, expanded_set, expanded_lt}
-use Rattle.bits.specs.Places.{weight, Ahead, all_ahead, none_ahead, Lowest, lowest}
+use Rattle.bits.proofs.Packed.{below_clear, below_set, expanded_clear, expanded_set, expanded_lt}
+use Rattle.bits.specs.Places.{Ahead, Lowest}
+use Rattle.bits.proofs.Places.{weight, all_ahead, none_ahead, lowest}
 
 -- `left` has the values that are not placed yet, and `out` those that are
 pub record Walked (map packed rest left out : ℕ) : Type 0 where

@@ -11,7 +11,7 @@ use lib.Seq.{sets}
 use Rattle.bits.specs.Digits.{gathered}
 use Rattle.encoding.specs.Layout.{takes}
 use Rattle.encoding.specs.Text.{bytes_of}
-use Rattle.encoding.specs.Texts.{length_bytes, length_text}
+use Rattle.encoding.proofs.Texts.{length_bytes, length_text}
 use Rattle.encoding.proofs.Putting.{nothing_put, then_put, then_bytes, all_put}
 use Rattle.refusal.specs.declared.Refusal.{Refusal}
 use Rattle.refusal.specs.declared.Refusal.TheVariants.{BadMessage, ShortBuffer}
@@ -24,8 +24,8 @@ use Rattle.policy.specs.declared.Decoded.{Decoded}
 use Rattle.policy.specs.declared.Policy.{Policy}
 use Rattle.policy.specs.declared.Sizes.{Sizes}
 use Rattle.policy.specs.Format.{policy_of, decode_of}
-use Rattle.policy.specs.Laws.{answered, handed_out}
-use Rattle.policy.specs.CheckedFirst.{leaves_refused, leaves_written}
+use Rattle.policy.proofs.Laws.{answered, handed_out}
+use Rattle.policy.proofs.CheckedFirst.{leaves_refused, leaves_written}
 use Rattle.message.specs.declared.MessageNumbers.{MessageNumbers}
 use Rattle.message.specs.Format.{widths, value_bytes}
 use Rattle.message.specs.Text.{field_of, fields_part, values_part, text_of, numbers_good, writing_checks, encode_under, encode_checks, encode_of}

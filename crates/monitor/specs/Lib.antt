@@ -3,7 +3,4 @@ pub mod State
 pub mod Storing
 pub mod Checked
 pub mod Lookup
-pub mod Codes
 pub mod Demands
-pub mod Laws
-pub mod Leaves

@@ -8,7 +8,7 @@ use Rattle.refusal.specs.declared.Refusal.TheVariants.{Conflict}
 use Rattle.refusal.specs.declared.Answer.{Answer as Checked}
 use Rattle.refusal.specs.declared.Answer.TheVariants as C
 use Rattle.refusal.specs.Checks.{check, first_failed, and_then}
-use Rattle.refusal.specs.Laws.{in_order}
+use Rattle.refusal.proofs.Laws.{in_order}
 use Rattle.policy.specs.declared.Sizes.{Sizes}
 use Rattle.policy.specs.declared.Policy.{Policy}
 use Rattle.policy.specs.declared.Decoded.{Decoded as Decoded-policy}
@@ -17,7 +17,7 @@ use Rattle.message.specs.declared.Event.{Event}
 use Rattle.message.specs.declared.Decoded.{Decoded}
 use Rattle.message.specs.Format.{message_checks, answer_of as message-answer, decode_of}
 use Rattle.message.specs.Fixes.{WellFormed, meaning_of}
-use Rattle.message.specs.Laws.{decoded, decoded_answer}
+use Rattle.message.proofs.Laws.{decoded, decoded_answer}
 use Rattle.knowledge.specs.Knowledge.{admits}
 use Rattle.knowledge.specs.Run.{sent}
 use Rattle.monitor.specs.declared.Answer.TheVariants.{Done, Refused}

@@ -14,7 +14,8 @@ use Rattle.refusal.specs.declared.Refusal.{Refusal}
 use Rattle.refusal.specs.declared.Refusal.TheVariants.{TruncatedMessage, BadMessage, Conflict}
 use Rattle.refusal.specs.declared.Answer.{Answer as Checked}
 use Rattle.refusal.specs.declared.Answer.TheVariants as C
-use Rattle.refusal.specs.Numbers.{refusal_place, packet_place, first_place}
+use Rattle.refusal.specs.Numbers.{refusal_place, packet_place}
+use Rattle.refusal.proofs.Numbers.{first_place}
 use Rattle.refusal.specs.Checks.{check, first_failed, and_then}
 use Rattle.policy.specs.declared.Sizes.{Sizes}
 use Rattle.policy.specs.declared.Policy.{Policy}
@@ -24,21 +25,22 @@ use Rattle.message.specs.declared.Decoded.{Decoded}
 use Rattle.message.specs.declared.Step.{Step}
 use Rattle.message.specs.Format.{good_message, length_of, decode_of, with_answer, first_answer, first_of, used_of, rest_of, messages_of}
 use Rattle.message.specs.Packet.{step_of}
-use Rattle.message.specs.First.{used_in, used_some, alone, messages_none, messages_some}
+use Rattle.message.proofs.First.{used_in, used_some, alone, messages_none, messages_some}
 use Rattle.knowledge.specs.Knowledge.{Knowledge, Sound, stored, admits, Sized as Long}
 use Rattle.knowledge.specs.Laws.{Limits}
 use Rattle.knowledge.specs.Run.{held}
 use Rattle.monitor.specs.declared.Answer.TheVariants.{Received}
 use Rattle.monitor.specs.declared.PacketAnswer.{PacketAnswer}
 use Rattle.monitor.specs.declared.Stop.TheVariants as P
-use Rattle.origin.specs.Origin.{Origin, origin_of, origin_long}
+use Rattle.origin.specs.Origin.{Origin, origin_of}
+use Rattle.origin.proofs.Origin.{origin_long}
 use Rattle.monitor.specs.State.{State, Outcome, outcome, SizedSheets, Sized, over, rewritten, receive, PacketOutcome, packet_outcome, stopped, refused_at, ends_or, take_each, unless_packet, receive_packet, record_checks}
 use Rattle.monitor.specs.Storing.{said, Ranged, Stored, stored_as, stored_unless, store_message, sheets_after, settle_message, StoredPacket, stored_packet, stores, stores_or, store_each, sheets_once, take_packet}
 use Rattle.monitor.specs.Checked.{Checks}
-use Rattle.monitor.specs.Laws.{knowledge_sized, plain_take, over_sized}
+use Rattle.monitor.proofs.Laws.{knowledge_sized, plain_take, over_sized}
 use Rattle.monitor_checks.proofs.Checking.{limits, record_read, record_under, record_sized, record_sound}
 use Rattle.policy.specs.Proper.{Proper}
-use Rattle.policy.specs.Laws.{short}
+use Rattle.policy.proofs.Laws.{short}
 use Rattle.monitor_calls.proofs.Storing.{refusal_keeps, still_long, still_sound, ranged, take_read}
 
 -- ---- the loop

@@ -12,13 +12,13 @@ use Rattle.policy.specs.declared.Policy.{Policy}
 use Rattle.policy.specs.Proper.{Proper}
 use Rattle.knowledge.specs.Knowledge.{Knowledge, none, Sound, fresh}
 use Rattle.knowledge.specs.Run.{held, SteadyRuns, PointRow}
-use Rattle.knowledge.specs.Runs.{runs_of}
+use Rattle.knowledge.proofs.Runs.{runs_of}
 use Rattle.valuation.specs.Rows.{Points}
 use Rattle.valuation.specs.Sheets.{valuation_of, verdicts_of, standing}
 use Rattle.monitor.specs.declared.Answer.TheVariants.{Received}
 use Rattle.origin.specs.Origin.{Origin}
 use Rattle.monitor.specs.State.{Outcome, lent, outcome, SizedSheets, opened, rewritten}
-use Rattle.monitor.specs.Laws.{fresh_sound, sheet_lengths, blank_sheet, lengths}
+use Rattle.monitor.proofs.Laws.{fresh_sound, sheet_lengths, blank_sheet, lengths}
 
 -- a list of its exact size that was written whole
 whole : (n : ℕ) (l new old : List ℕ) → length old ≡ n → new ≡ l ++ drop n old → new ≡ l

@@ -5,13 +5,13 @@ use mathlib.Core.Path.{◌≡◌, refl, sym, ap, subst, ◌∙◌}
 use mathlib.Core.Bool.{Bool, true, false}
 use mathlib.Core.List.{List, [], ◌∷◌}
 use lib.ListN.{length, length-drop}
-use Rattle.logic.specs.Bools.{both}
+use Rattle.logic.proofs.Bools.{both}
 use Rattle.refusal.specs.declared.Refusal.{Refusal}
 use Rattle.refusal.specs.declared.Refusal.TheVariants.{TruncatedMessage, Conflict}
 use Rattle.refusal.specs.declared.Answer.{Answer as Checked}
 use Rattle.refusal.specs.declared.Answer.TheVariants as C
 use Rattle.refusal.specs.Checks.{check, first_failed, and_then}
-use Rattle.refusal.specs.Laws.{not_accepted}
+use Rattle.refusal.proofs.Laws.{not_accepted}
 use Rattle.policy.specs.declared.Sizes.{Sizes}
 use Rattle.policy.specs.declared.Policy.{Policy}
 use Rattle.policy.specs.Proper.{Proper}
@@ -19,17 +19,18 @@ use Rattle.message.specs.declared.Decoded.{Decoded}
 use Rattle.message.specs.declared.Step.{Step}
 use Rattle.message.specs.Format.{length_of, decode_of, first_of, used_of, rest_of}
 use Rattle.message.specs.Packet.{step_of}
-use Rattle.message.specs.First.{either, used_whole, used_early, used_in, single}
+use Rattle.message.proofs.First.{either, used_whole, used_early, used_in, single}
 use Rattle.message.specs.Fixes.{Fits}
-use Rattle.message.specs.Laws.{decoded_answer, fits}
+use Rattle.message.proofs.Laws.{decoded_answer, fits}
 use Rattle.knowledge.specs.Knowledge.{Knowledge, Sound, sound, stored, free, admits, Sized as Long}
-use Rattle.knowledge.specs.Laws.{Limits, sound_law}
-use Rattle.knowledge.specs.Store.{store_long}
+use Rattle.knowledge.specs.Laws.{Limits}
+use Rattle.knowledge.proofs.Laws.{sound_law}
+use Rattle.knowledge.proofs.Store.{store_long}
 use Rattle.knowledge.specs.Run.{held}
 use Rattle.monitor.specs.declared.Answer.TheVariants.{Refused}
 use Rattle.monitor.specs.State.{State, Outcome, lent, SizedSheets, rewritten, take_message}
 use Rattle.monitor.specs.Storing.{said, Ranged, Stored, stored_as, stored_unless, store_message, sheets_after, settle_message}
-use Rattle.monitor.specs.Laws.{knowledge_sized}
+use Rattle.monitor.proofs.Laws.{knowledge_sized}
 use Rattle.monitor_checks.proofs.Checking.{limits}
 use Rattle.monitor_calls.proofs.Calls.{hear, message_refused, message_conflict, message_taken}
 

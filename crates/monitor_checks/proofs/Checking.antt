@@ -9,20 +9,23 @@ use Rattle.refusal.specs.declared.Refusal.TheVariants.{BufferSize, CorruptKnowle
 use Rattle.refusal.specs.declared.Answer.{Answer as Checked}
 use Rattle.refusal.specs.declared.Answer.TheVariants as C
 use Rattle.refusal.specs.Checks.{Check, check, first_failed, and_then, Passed, pass, none}
-use Rattle.refusal.specs.Laws.{in_order, passing_law, passed_parts, not_accepted}
+use Rattle.refusal.proofs.Laws.{in_order, passing_law, passed_parts, not_accepted}
 use Rattle.policy.specs.declared.Policy.{Policy}
 use Rattle.policy.specs.declared.Decoded.{Decoded as Decoded-policy}
 use Rattle.policy.specs.Format.{policy_checks, answer_of, policy_of, decode_of as decode-policy}
 use Rattle.policy.specs.Proper.{Proper}
-use Rattle.policy.specs.Laws.{accepted, answered, short}
-use Rattle.policy.specs.ReadPolicy.{Read, read_policy}
+use Rattle.policy.proofs.Laws.{accepted, answered, short}
+use Rattle.policy.specs.ReadPolicy.{Read}
+use Rattle.policy.proofs.ReadPolicy.{read_policy}
 use Rattle.knowledge.specs.Knowledge.{Sound, sound}
-use Rattle.knowledge.specs.Laws.{Limits, sound_law}
+use Rattle.knowledge.specs.Laws.{Limits}
+use Rattle.knowledge.proofs.Laws.{sound_law}
 use Rattle.monitor.specs.declared.Lengths.{Lengths}
-use Rattle.origin.specs.Origin.{origin_of, opened_under, under_law}
+use Rattle.origin.specs.Origin.{origin_of, opened_under}
+use Rattle.origin.proofs.Origin.{under_law}
 use Rattle.monitor.specs.State.{State, Sized, sizes_fit, sized, size_checks, origin_checks, record_checks, opening_checks}
 use Rattle.monitor.specs.Checked.{Checks}
-use Rattle.monitor.specs.Laws.{sized_law}
+use Rattle.monitor.proofs.Laws.{sized_law}
 
 -- what a policy that was read keeps to
 pub limits : (p : Policy) → Proper p → Limits p.sizes

@@ -6,13 +6,13 @@ use native.Mathlib.Nat.{mul-le-mul}
 use native.Mathlib.Omega.{arith}
 use lib.ListN.{get_or, length}
 use borrow.Author.Tests.{eq-eqb, ne_eqb, lt-ltb, le-ltb}
-use Rattle.rows.specs.Grid.{in_grid}
+use Rattle.rows.proofs.Grid.{in_grid}
 use Rattle.refusal.specs.declared.Refusal.{Refusal}
 use Rattle.refusal.specs.declared.Refusal.TheVariants.{BufferSize, OutOfRange}
 use Rattle.refusal.specs.declared.Answer.{Answer as Checked}
 use Rattle.refusal.specs.declared.Answer.TheVariants as C
 use Rattle.refusal.specs.Checks.{first_failed, and_then}
-use Rattle.refusal.specs.Laws.{in_order}
+use Rattle.refusal.proofs.Laws.{in_order}
 use Rattle.policy.specs.Format.{policy_checks, answer_of, policy_of}
 use Rattle.policy.specs.declared.Policy.{Policy}
 use Rattle.policy.specs.Proper.{Proper}

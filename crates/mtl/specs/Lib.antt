@@ -4,12 +4,8 @@ pub mod Syntax
 pub mod Algebra
 pub mod Reading
 pub mod Before
-pub mod Folds
 pub mod Related
-pub mod Unroll
 pub mod Renumbering
 pub mod Replacing
 pub mod Plainly
 pub mod Knowing
-pub mod Textbook
-pub mod Pins

@@ -4,7 +4,8 @@ use mathlib.Core.Path.{◌≡◌, refl, ap₂}
 use mathlib.Core.Bool.{Bool, true, false, cond}
 use lib.ListN.{get_or}
 use Rattle.kleene.specs.Truth.{unknown, true3, false3, code_of}
-use Rattle.bits.specs.Bits.{bit, bit_clear, bit_set}
+use Rattle.bits.specs.Bits.{bit}
+use Rattle.bits.proofs.Bits.{bit_clear, bit_set}
 use Rattle.knowledge.specs.Knowledge.{Knowledge, noted, valued, fact}
 
 module _ (k : Knowledge) (i t known values : ℕ) (p : known ≡ get_or k.facts (2 * t) 0) (q : values ≡ get_or k.facts (2 * t + 1) 0) where

@@ -6,7 +6,8 @@ use Prim.Native.Nat.{ℕ, zero, suc, ◌+◌, ◌≤◌, ◌<◌}
 use native.Mathlib.Nat.{eq-or-lt_of_le}
 use native.Mathlib.Omega.{arith}
 use Rattle.kleene.specs.Truth.{Truth}
-use Rattle.kleene.specs.Rank.{rank_of, rank_or, rank_and}
+use Rattle.kleene.specs.Rank.{rank_of}
+use Rattle.kleene.proofs.Rank.{rank_or, rank_and}
 use Rattle.mtl.specs.Algebra.{three, any, all}
 
 module _ (k : ℕ) (f : ℕ → Truth) (lo : ℕ) where

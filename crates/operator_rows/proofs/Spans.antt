@@ -8,11 +8,12 @@ use native.Mathlib.Omega.{arith}
 use lib.Dec.{ltb, leb}
 use borrow.Author.Tests.{le-leb, lt-leb}
 use Rattle.kleene.specs.Truth.{Truth, unknown, true3, not3}
-use Rattle.kleene.specs.Rank.{rank_of, rank_le, rank_or, rank_and, rank_not}
+use Rattle.kleene.specs.Rank.{rank_of}
+use Rattle.kleene.proofs.Rank.{rank_le, rank_or, rank_and, rank_not}
 use Rattle.kleene.specs.Tests.{literal}
-use Rattle.rows.specs.Laws.{lt_or_le}
+use Rattle.rows.proofs.Laws.{lt_or_le}
 use Rattle.decide.specs.Decide.{Decides}
-use Rattle.decide.specs.Laws.{fails, same, less, most, both, none}
+use Rattle.decide.proofs.Laws.{fails, same, less, most, both, none}
 use Rattle.mtl.specs.Algebra.{three, any, meet, implies}
 use Rattle.mtl.specs.Reading.{World, point, meets, keeps, since_start, since_count, since, until_start, until_count, until}
 use Rattle.valuation.specs.Indexes.{ranked, begun, broken, Last, far, turned}

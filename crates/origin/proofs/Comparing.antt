@@ -9,10 +9,12 @@ use lib.ListN.{get_or, length}
 use lib.Seq.{ext_get_or}
 use borrow.Author.Count.{below_more}
 use borrow.Author.Tests.{ne_eqb}
-use Rattle.rows.specs.Grid.{table, table_length, table_at}
+use Rattle.rows.specs.Grid.{table}
+use Rattle.rows.proofs.Grid.{table_length, table_at}
 use Rattle.decide.specs.Decide.{Decides}
-use Rattle.decide.specs.Laws.{both, equal, same, agree}
-use Rattle.origin.specs.Origin.{stamped, origin_of, Starts, ZeroFrom, opened_under, under_law, holds_law, origin_long, origin_byte}
+use Rattle.decide.proofs.Laws.{both, equal, same, agree}
+use Rattle.origin.specs.Origin.{stamped, origin_of, Starts, ZeroFrom, opened_under}
+use Rattle.origin.proofs.Origin.{under_law, holds_law, origin_long, origin_byte}
 
 -- ---- a loop that tests one after another
 

@@ -1,15 +1,15 @@
 -- A policy with a line of every kind and one that has every field. The list of widths is shared by what is read and by what is stated of it, so that
 -- no theorem can tell a wrong one: this example does.
-use Rattle.std.specs.Prelude.{◌≡◌, refl, true, false, List, [], ◌∷◌, ◌++◌, replicate, ℕ}
+use Rattle.std.specs.Prelude.{◌≡◌, true, false, List, [], ◌∷◌, ◌++◌, replicate, ℕ}
 use Rattle.mtl.specs.declared.Formula.TheVariants as F
 use Rattle.refusal.specs.declared.Refusal.TheVariants.{BadHeading, BadSubformula, RuleCount, ShortBuffer}
 use Rattle.refusal.specs.declared.Answer.TheVariants.{Accepted}
 use Rattle.refusal.specs.declared.Written.TheVariants.{Length, Refused}
 use Rattle.policy.specs.declared.LineNumbers.{LineNumbers}
 use Rattle.policy.specs.declared.PolicyNumbers.{PolicyNumbers}
-use Rattle.policy.specs.Format.{line_length, fields_at, keeps_kind, good_line, meaning, formula_of, subformula_of, subformula_at, offset, heading_checks, line_checks, lines_checks, lines_up_to, subformulas_of, rules_up_to, closing_checks, policy_checks, answer_of, policy_of}
+use Rattle.policy.specs.Format.{answer_of, policy_of}
 use Rattle.policy.specs.Proper.{formula_at}
-use Rattle.policy.specs.Text.{numbered, line_text, lines_text, text_of, line_good, lines_good, encode_checks, encode_of}
+use Rattle.policy.specs.Text.{numbered, text_of, encode_of}
 
 -- 2 marks, 3 stations, 258 minutes, 12 lines: true; mark 1; not line 1; line 1 or line 2; line 1 since line 2 from 1 to 258, a rule; line 3 until
 -- line 4 from 256 to 1,023; line 1 and line 2; line 2 implies line 1; once line 3 from 0 to 258; historically line 4 from 1 to 1,023; eventually
@@ -50,29 +50,6 @@ pub record EveryKind : Type 0 where
   pub line_9 : formula_at (policy_of every_kind) 9 ≡ F.Historically 4 1 1023
   pub line_10 : formula_at (policy_of every_kind) 10 ≡ F.Eventually 5 256 256
   pub line_11 : formula_at (policy_of every_kind) 11 ≡ F.Always 10 2 3
-
-pub kinds_read : EveryKind
-unfolding line_length fields_at keeps_kind good_line meaning formula_of subformula_of subformula_at heading_checks offset line_checks lines_checks lines_up_to subformulas_of rules_up_to closing_checks policy_checks answer_of policy_of
-kinds_read = record {
-  accepted = refl;
-  propositions = refl;
-  components = refl;
-  minutes = refl;
-  count = refl;
-  rules = refl;
-  line_0 = refl;
-  line_1 = refl;
-  line_2 = refl;
-  line_3 = refl;
-  line_4 = refl;
-  line_5 = refl;
-  line_6 = refl;
-  line_7 = refl;
-  line_8 = refl;
-  line_9 = refl;
-  line_10 = refl;
-  line_11 = refl;
-}
 
 -- ---- written (02, request 3)
 
@@ -127,18 +104,3 @@ pub record EveryNumber : Type 0 where
     count = 3;
     lines = numbered 0 0 0 0 0 false ∷ numbered 1 0 0 0 0 false ∷ numbered 4 0 1 0 2 true ∷ [];
   }) ≡ 0x01 ∷ 0x01 ∷ 0x04 ∷ 0x00 ∷ 0x03 ∷ 0x00 ∷ 0x01 ∷ 0x01 ∷ 0x35 ∷ 0x04 ∷ 0x01 ∷ 0x02 ∷ 0x00 ∷ []
-
-pub numbers_written : EveryNumber
-unfolding line_text lines_text text_of line_good lines_good encode_checks encode_of
-numbers_written = record {
-  text = refl;
-  exact = refl;
-  longer = refl;
-  short = refl;
-  line_first = refl;
-  once_second = refl;
-  no_twelve = refl;
-  no_rule = refl;
-  no_line = refl;
-  k = refl;
-}

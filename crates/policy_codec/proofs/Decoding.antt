@@ -7,14 +7,14 @@ use Rattle.refusal.specs.declared.Refusal.{Refusal}
 use Rattle.refusal.specs.declared.Answer.{Answer}
 use Rattle.refusal.specs.declared.Answer.TheVariants.{Accepted, Refused}
 use Rattle.refusal.specs.Checks.{first_failed, Passed, Refuses}
-use Rattle.refusal.specs.Laws.{refusal_law, passing_law}
+use Rattle.refusal.proofs.Laws.{refusal_law, passing_law}
 use Rattle.policy.specs.declared.Sizes.{Sizes}
 use Rattle.policy.specs.declared.Subformula.{Subformula}
 use Rattle.policy.specs.declared.Decoded.{Decoded}
 use Rattle.policy.specs.declared.Scanned.{Scanned}
 use Rattle.policy.specs.Format.{sizes_of, count_of, rules_up_to, offset, subformulas_of, with_answer, blank, heading_checks, lines_checks, closing_checks, policy_checks, answer_of, policy_of, decode_of}
 use Rattle.policy.specs.Lines.{Scans}
-use Rattle.policy.specs.Causes.{in_lines, in_closing, to_the_end}
+use Rattle.policy.proofs.Causes.{in_lines, in_closing, to_the_end}
 
 pub refuses : (s : List ℕ) (r : Refusal) (d : Decoded) → Refuses (policy_checks s) r → d ≡ with_answer (Refused r) blank → d ≡ decode_of s
 unfolding decode_of answer_of

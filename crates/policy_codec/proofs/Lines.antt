@@ -14,11 +14,11 @@ use Rattle.policy.specs.declared.Subformula.{Subformula}
 use Rattle.policy.specs.declared.Fields.{Fields}
 use Rattle.refusal.specs.declared.Answer.TheVariants.{Accepted, Refused}
 use Rattle.refusal.specs.Checks.{Passed, none, pass, Refuses, here, there}
-use Rattle.refusal.specs.Laws.{refusal_law, passing_law}
+use Rattle.refusal.proofs.Laws.{refusal_law, passing_law}
 use Rattle.policy.specs.Format.{line_length, fields_at, good_line, subformula_of, subformula_at, offset, line_checks, lines_checks, no_line, subformulas_of, rules_up_to}
 use Rattle.policy.specs.Lines.{Scans}
-use Rattle.policy.specs.Table.{none_yet, one_more}
-use Rattle.policy.specs.Causes.{refused_line, passed_line}
+use Rattle.policy.proofs.Table.{none_yet, one_more}
+use Rattle.policy.proofs.Causes.{refused_line, passed_line}
 
 -- the first i lines are accepted and read
 pub record UpTo (s : List ℕ) (i : ℕ) (subformulas : List Subformula) (rules at : ℕ) : Type 0 where

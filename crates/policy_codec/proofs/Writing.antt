@@ -11,7 +11,7 @@ use lib.ListN.{length, length-append}
 use lib.Seq.{sets}
 use Rattle.encoding.proofs.Putting.{Put, nothing_put, then_put, all_put}
 use Rattle.encoding.specs.Layout.{takes}
-use Rattle.encoding.specs.Texts.{length_text}
+use Rattle.encoding.proofs.Texts.{length_text}
 use Rattle.refusal.specs.declared.Refusal.TheVariants.{BadHeading, BadSubformula, RuleCount, ShortBuffer}
 use Rattle.refusal.specs.declared.Written.{Written}
 use Rattle.refusal.specs.declared.Written.TheVariants.{Length, Refused}
@@ -20,8 +20,8 @@ use Rattle.policy.specs.declared.PolicyNumbers.{PolicyNumbers}
 use Rattle.policy.specs.declared.LineNumbers.{LineNumbers}
 use Rattle.policy.specs.Encoded.{widths}
 use Rattle.policy.specs.Format.{within}
-use Rattle.policy.specs.Ranges.{never_falls}
-use Rattle.policy.specs.Refusals.{heading_law}
+use Rattle.policy.proofs.Ranges.{never_falls}
+use Rattle.policy.proofs.Refusals.{heading_law}
 use Rattle.policy.specs.Text.{line_in, rules_among, field_of, heading_good, line_good, lines_good, line_text, lines_text, heading_text, text_of, encode_checks, encode_of}
 
 pub line_long : (l : LineNumbers)

@@ -4,7 +4,7 @@ use mathlib.Core.Path.{◌≡◌, sym, ap, ◌∙◌}
 use mathlib.Core.List.{List, ◌++◌}
 use borrow.Author.Tests.{le-leb, lt-leb}
 use lib.ListN.{length, drop}
-use Rattle.rows.specs.Grid.{table_length}
+use Rattle.rows.proofs.Grid.{table_length}
 use Rattle.refusal.specs.declared.Refusal.{Refusal}
 use Rattle.refusal.specs.declared.Refusal.TheVariants.{ShortBuffer}
 use Rattle.refusal.specs.declared.Answer.TheVariants as C
@@ -15,10 +15,10 @@ use Rattle.refusal.specs.Writes.{Output}
 use Rattle.policy.specs.declared.Decoded.{Decoded}
 use Rattle.policy.specs.declared.Policy.{Policy}
 use Rattle.policy.specs.Format.{policy_of, decode_of}
-use Rattle.policy.specs.Laws.{answered, handed_out}
-use Rattle.policy.specs.ReadPolicy.{read_policy}
+use Rattle.policy.proofs.Laws.{answered, handed_out}
+use Rattle.policy.proofs.ReadPolicy.{read_policy}
 use Rattle.policy.specs.Proper.{Proper}
-use Rattle.policy.specs.CheckedFirst.{leaves_refused, leaves_written}
+use Rattle.policy.proofs.CheckedFirst.{leaves_refused, leaves_written}
 use Rattle.reach.specs.Reaches.{rule_reach, reaches_of, room_checks, reaches_under, rule_reaches}
 
 module _ (p : Policy) (out : List ℕ) where

@@ -7,11 +7,12 @@ use mathlib.Core.List.{List}
 use lib.ListN.{get_or, length, set, length-set}
 use lib.Seq.{get_or-set_same, get_or-set_other}
 use Rattle.mtl.specs.declared.Formula.{Formula}
-use Rattle.mtl.specs.Abbreviations.{abbreviation, leaves_map}
+use Rattle.mtl.specs.Abbreviations.{abbreviation}
+use Rattle.mtl.proofs.Abbreviations.{leaves_map}
 use Rattle.policy.specs.declared.Policy.{Policy}
 use Rattle.policy.specs.Proper.{Proper, formula_at}
 use Rattle.reach.specs.Reach.{reach_from, reach}
-use Rattle.reach.specs.Laws.{same_from, unroll_reach, small_reach}
+use Rattle.reach.proofs.Laws.{same_from, unroll_reach, small_reach}
 use Rattle.reach.specs.Lines.{Workable}
 
 -- of the formula of an arm

@@ -7,12 +7,12 @@ use mathlib.Core.Bool.{true, false}
 use mathlib.Core.List.{List, ◌++◌}
 use lib.ListN.{get_or, length, drop, set, length-append}
 use Rattle.rows.specs.Over.{Over}
-use Rattle.rows.specs.Laws.{untouched, one_more}
-use Rattle.rows.specs.Parts.{from_front}
+use Rattle.rows.proofs.Laws.{untouched, one_more}
+use Rattle.rows.proofs.Parts.{from_front}
 use Rattle.policy.specs.declared.Policy.{Policy}
 use Rattle.policy.specs.Format.{no_line, rule_lines}
 use Rattle.policy.specs.Proper.{Proper, formula_at}
-use Rattle.policy.specs.RuleLines.{rule_more, rule_skip, rule_under, rule_at}
+use Rattle.policy.proofs.RuleLines.{rule_more, rule_skip, rule_under, rule_at}
 use Rattle.reach.specs.Reach.{reach}
 use Rattle.reach.specs.Reaches.{rule_reach, reaches_of}
 

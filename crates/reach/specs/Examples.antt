@@ -1,13 +1,11 @@
 -- The call on the bytes of cards, computed: 01's card K, which looks back; K with an until in its place; one with three rules, whose reaches differ; and
 -- refusals.
-use Rattle.std.specs.Prelude.{ℕ, ◌≡◌, refl, List, [], ◌∷◌}
+use Rattle.std.specs.Prelude.{ℕ, ◌≡◌, List, [], ◌∷◌}
 use Rattle.refusal.specs.declared.Refusal.TheVariants.{TruncatedPolicy, ShortBuffer}
 use Rattle.refusal.specs.declared.Written.{Written}
 use Rattle.refusal.specs.declared.Written.TheVariants.{Length, Refused}
 use Rattle.refusal.specs.Writes.{Output}
-use Rattle.policy.specs.Format.{line_length, fields_at, keeps_kind, good_line, meaning, formula_of, subformula_of, subformula_at, heading_checks, offset, line_checks, lines_checks, lines_up_to, subformulas_of, rule_lines, rules_up_to, closing_checks, policy_checks, answer_of, policy_of}
-use Rattle.reach.specs.Reach.{reach_deep, reach}
-use Rattle.reach.specs.Reaches.{reaches_of, reaches_under, rule_reaches}
+use Rattle.reach.specs.Reaches.{rule_reaches}
 
 -- "mark 0 at some time in the last 2 minutes", and "mark 0 within the next minute"
 abbrev K : List ℕ
@@ -38,7 +36,3 @@ pub record Examples : Type 0 where
   pub no_room : rule_reaches three_rules (9 ∷ 9 ∷ []) ≡ gives (Refused ShortBuffer) (9 ∷ 9 ∷ [])
   -- the card comes first
   pub no_card : rule_reaches [] [] ≡ gives (Refused (TruncatedPolicy 0)) []
-
-pub examples : Examples
-unfolding line_length fields_at keeps_kind good_line meaning formula_of subformula_of subformula_at heading_checks offset line_checks lines_checks lines_up_to subformulas_of rule_lines rules_up_to closing_checks policy_checks answer_of policy_of reach_deep reach reaches_of reaches_under rule_reaches
-examples = record { looks_back = refl; looks_ahead = refl; in_order = refl; no_room = refl; no_card = refl }

@@ -7,4 +7,3 @@ pub mod Lines
 pub mod Reaches
 pub mod Examples
 pub mod Called
-pub mod Refusals

@@ -1,12 +1,12 @@
 -- Computed cases that pin the reach, kind by kind and nested, and that show it to be the least: at t + reach = M a line may be open though all is known.
 -- Only the definitions are imported, so that a wrong one is refused here by itself.
-use Rattle.std.specs.Prelude.{ℕ, ◌≡◌, refl, [], ◌∷◌, ltb, get_or}
+use Rattle.std.specs.Prelude.{ℕ, ◌≡◌, [], ◌∷◌, ltb, get_or}
 use Rattle.kleene.specs.Truth.{Truth, unknown, true3, false3}
 use Rattle.mtl.specs.declared.Formula.{Formula}
 use Rattle.mtl.specs.declared.Formula.TheVariants.{True, Proposition, Not, Or, Since, Until, And, Implies, Once, Historically, Eventually, Always}
 use Rattle.mtl.specs.Algebra.{three}
-use Rattle.mtl.specs.Reading.{World, since, until, deep, reading}
-use Rattle.reach.specs.Reach.{reach_deep, reach}
+use Rattle.mtl.specs.Reading.{World, since, until, reading}
+use Rattle.reach.specs.Reach.{reach}
 
 -- lines 0 true, 1 a proposition, 2 to 4 with reaches 3, 5 and 5, 5 the one that is asked for
 abbrev line : Formula → ℕ → Formula
@@ -60,34 +60,3 @@ pub record Pins : Type 0 where
   pub nested_reach : reach nested 3 ≡ 3
   pub nested_in : read false3 nested 3 0 ≡ false3
   pub nested_out : read false3 nested 3 1 ≡ unknown
-
-pub pins : Pins
-unfolding since until deep reading reach_deep reach
-pins = record {
-  of_true = refl;
-  of_proposition = refl;
-  of_not = refl;
-  of_or = refl;
-  of_or_left = refl;
-  of_and = refl;
-  of_and_left = refl;
-  of_implies = refl;
-  of_implies_left = refl;
-  of_since = refl;
-  of_since_left = refl;
-  of_once = refl;
-  of_historically = refl;
-  of_until = refl;
-  of_until_left = refl;
-  of_eventually = refl;
-  of_always = refl;
-  until_in = refl;
-  until_out = refl;
-  eventually_in = refl;
-  eventually_out = refl;
-  always_in = refl;
-  always_out = refl;
-  nested_reach = refl;
-  nested_in = refl;
-  nested_out = refl;
-}

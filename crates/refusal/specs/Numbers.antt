@@ -1,6 +1,5 @@
 -- 01, "Reasons to turn a call away", with 11 to 14 of 02, requests 3, 5 and 7: the number and the place of each.
-use Rattle.std.specs.Prelude.{ℕ, ◌+◌, ◌≡◌, refl, [], ◌∷◌, get_or}
-use Rattle.std.proofs.Common.{zero-add}
+use Rattle.std.specs.Prelude.{ℕ, ◌+◌, [], ◌∷◌, get_or}
 use Rattle.refusal.specs.declared.Refusal.{Refusal}
 use Rattle.refusal.specs.declared.Refusal.TheVariants.{TruncatedPolicy, BadHeading, BadSubformula, RuleCount, BufferSize, CorruptKnowledge, TruncatedMessage, BadMessage, Conflict, OutOfRange, ShortBuffer, OtherPolicy, RuleSyntax, RuleLimit}
 
@@ -55,41 +54,7 @@ packet_place start OtherPolicy = refusal_place OtherPolicy
 packet_place start (RuleSyntax at) = refusal_place (RuleSyntax at)
 packet_place start (RuleLimit at) = refusal_place (RuleLimit at)
 
--- at the packet's start each keeps its place
-pub first_place : (r : Refusal) → packet_place 0 r ≡ refusal_place r
-first_place (TruncatedPolicy at) = refl
-first_place (BadHeading at) = refl
-first_place (BadSubformula at) = refl
-first_place RuleCount = refl
-first_place BufferSize = refl
-first_place CorruptKnowledge = refl
-first_place (TruncatedMessage at) = zero-add at
-first_place BadMessage = refl
-first_place Conflict = refl
-first_place OutOfRange = refl
-first_place ShortBuffer = refl
-first_place OtherPolicy = refl
-first_place (RuleSyntax at) = refl
-first_place (RuleLimit at) = refl
-
 -- the refusal with this number and place, the numbers in order from 1
 abbrev pub refusal_of : ℕ → ℕ → Refusal
 refusal_of n at =
     get_or (OutOfRange ∷ TruncatedPolicy at ∷ BadHeading at ∷ BadSubformula at ∷ RuleCount ∷ BufferSize ∷ CorruptKnowledge ∷ TruncatedMessage at ∷ BadMessage ∷ Conflict ∷ OutOfRange ∷ ShortBuffer ∷ OtherPolicy ∷ RuleSyntax at ∷ RuleLimit at ∷ []) n OutOfRange
-
--- it is the only one
-pub only_one : (r : Refusal) → refusal_of (refusal_number r) (refusal_place r) ≡ r
-only_one (TruncatedPolicy at) = refl
-only_one (BadHeading at) = refl
-only_one (BadSubformula at) = refl
-only_one RuleCount = refl
-only_one BufferSize = refl
-only_one CorruptKnowledge = refl
-only_one (TruncatedMessage at) = refl
-only_one BadMessage = refl
-only_one Conflict = refl
-only_one OutOfRange = refl
-only_one ShortBuffer = refl
-only_one OtherPolicy = refl
-only_one (RuleSyntax at) = refl
-only_one (RuleLimit at) = refl

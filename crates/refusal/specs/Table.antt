@@ -1,5 +1,5 @@
 -- 01, "Reasons to turn a call away": the table's numbers and places, each computed.
-use Rattle.std.specs.Prelude.{ℕ, ◌+◌, ◌≡◌, refl}
+use Rattle.std.specs.Prelude.{ℕ, ◌+◌, ◌≡◌}
 use Rattle.refusal.specs.declared.Refusal.TheVariants.{TruncatedPolicy, BadHeading, BadSubformula, RuleCount, BufferSize, CorruptKnowledge, TruncatedMessage, BadMessage, Conflict, OutOfRange, ShortBuffer, OtherPolicy, RuleSyntax, RuleLimit}
 use Rattle.refusal.specs.Numbers.{refusal_number, refusal_place, packet_place}
 
@@ -33,24 +33,6 @@ pub record Table : Type 0 where
   -- 14, too much rule: where a limit is passed (02, request 7)
   pub too_much_rule : (at : ℕ) → (refusal_number (RuleLimit at) ≡ 14) × (refusal_place (RuleLimit at) ≡ at)
 
-pub table : Table
-table = record {
-  cut_card = λ at. (refl, refl);
-  bad_heading = λ at. (refl, refl);
-  bad_line = λ at. (refl, refl);
-  rule_count = (refl, refl);
-  wrong_tray = (refl, refl);
-  spoiled_record = (refl, refl);
-  cut_slip = λ at. (refl, refl);
-  bad_slip = (refl, refl);
-  clash = (refl, refl);
-  off_the_sheet = (refl, refl);
-  short_paper = (refl, refl);
-  other_card = (refl, refl);
-  unreadable_rule = λ at. (refl, refl);
-  too_much_rule = λ at. (refl, refl);
-}
-
 -- 02, request 1: where a refusal stands in a packet whose message starts at byte `start`
 pub record PacketTable : Type 0 where
   -- 1 to 6 and 12 are checked before 7: they "keep their places"
@@ -66,17 +48,3 @@ pub record PacketTable : Type 0 where
   -- 8 and 9 are checked after 7: "the slip's first byte"
   pub bad_slip : (start : ℕ) → packet_place start BadMessage ≡ start
   pub clash : (start : ℕ) → packet_place start Conflict ≡ start
-
-pub packet_table : PacketTable
-packet_table = record {
-  cut_card = λ start at. refl;
-  bad_heading = λ start at. refl;
-  bad_line = λ start at. refl;
-  rule_count = λ start. refl;
-  wrong_tray = λ start. refl;
-  spoiled_record = λ start. refl;
-  other_card = λ start. refl;
-  cut_slip = λ start at. refl;
-  bad_slip = λ start. refl;
-  clash = λ start. refl;
-}

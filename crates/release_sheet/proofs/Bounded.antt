@@ -5,7 +5,7 @@ use Rattle.policy.specs.declared.Policy.{Policy}
 use Rattle.refusal.specs.declared.Answer.{Answer}
 use Rattle.refusal.specs.declared.Answer.TheVariants.{Accepted, Refused}
 use Rattle.policy.specs.Format.{answer_of, policy_of, blank, with_answer, decode_of}
-use Rattle.policy.specs.Laws.{accepted}
+use Rattle.policy.proofs.Laws.{accepted}
 
 pub record Bounded (p : Policy) : Type 0 where
   pub components : p.sizes.components ≤ 16

@@ -1,6 +1,3 @@
 -- Rows of cells: written over (Over, Laws, Parts, Filled), and laid out flat, one after another (Grid).
 pub mod Over
-pub mod Laws
 pub mod Grid
-pub mod Parts
-pub mod Filled

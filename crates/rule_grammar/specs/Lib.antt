@@ -4,10 +4,7 @@ pub mod Numeral
 pub mod Term
 pub mod Places
 pub mod Lines
-pub mod Means
 pub mod Spelling
-pub mod Reading
-pub mod PlaceLaws
 pub mod Automaton
 pub mod Decided
 pub mod Brackets
@@ -18,6 +15,4 @@ pub mod Intervals
 pub mod Tests
 pub mod TestLaws
 pub mod Answers
-pub mod Accepted
 pub mod Watched
-pub mod Examples

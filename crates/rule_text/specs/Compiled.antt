@@ -12,7 +12,7 @@ use Rattle.policy.specs.Text.{formula_numbers, heading_good, encode_of}
 use Rattle.rule_grammar.specs.Term.{Term}
 use Rattle.rule_grammar.specs.Lines.{terms, lines}
 use Rattle.rule_grammar.specs.Places.{Answer, Taken, Refused}
-use Rattle.rule_grammar.specs.Answers.{answer_of}
+use Rattle.rule_grammar.proofs.Answers.{answer_of}
 
 -- "the last being the one rule"
 abbrev pub marked : List Formula → List LineNumbers

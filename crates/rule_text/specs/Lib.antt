@@ -4,8 +4,4 @@ pub mod Typed
 pub mod Gathered
 pub mod Steps
 pub mod Laws
-pub mod Terms
 pub mod Descent
-pub mod Writing
-pub mod Proved
-pub mod Examples

@@ -1,6 +1,6 @@
 -- What is written lies within the lent buffer, whose length no call changes. Assumes nothing.
 use native.Mathlib.Omega.{arith}
-use Rattle.rule_text.specs.Proved.{fits}
+use Rattle.rule_text.proofs.Proved.{fits}
 use borrow.Author.Rules.{rules}
 use Rattle.compile_rule.proofs.compile.Statement.{statement}
 use Rattle.compile_rule.proofs.compile.Tie as tie

@@ -6,7 +6,7 @@ use mathlib.Core.Bool.{true}
 use Prim.Native.Nat.{ℕ, suc, ◌*◌, ◌-◌, ◌≤◌}
 use native.Mathlib.Omega.{arith}
 use Rattle.mtl.specs.Algebra.{two, all}
-use Rattle.decide.specs.Laws.{each_fails, each_more}
+use Rattle.decide.proofs.Laws.{each_fails, each_more}
 use Rattle.knowledge.specs.Knowledge.{run_of, steady}
 use Rattle.counter_runs.proofs.Parts.{part_long, part_steady, one_run, room}
 use Rattle.counter_runs.proofs.are_steady.Statement.{statement}

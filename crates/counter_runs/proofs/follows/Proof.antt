@@ -4,8 +4,8 @@ use borrow.Author.Rules.{rules}
 use mathlib.Core.Path.{sym}
 use Prim.Native.Nat.{◌+◌}
 use native.Mathlib.Omega.{arith}
-use Rattle.decide.specs.Laws.{is_false, agree, same, most}
-use Rattle.knowledge.specs.Runs.{follow_decides}
+use Rattle.decide.proofs.Laws.{is_false, agree, same, most}
+use Rattle.knowledge.proofs.Runs.{follow_decides}
 use Rattle.counter_runs.proofs.follows.Statement.{statement}
 use Rattle.counter_runs.proofs.follows.Tie as tie
 

@@ -6,10 +6,10 @@ use mathlib.Core.Bool.{true, false}
 use Prim.Native.Nat.{ℕ, ◌-◌, ◌≤◌, ◌<◌}
 use native.Mathlib.Omega.{arith}
 use lib.ListN.{length}
-use Rattle.decide.specs.Laws.{is_false, fails}
+use Rattle.decide.proofs.Laws.{is_false, fails}
 use Rattle.knowledge.specs.Knowledge.{Follow, Steady}
 use Rattle.knowledge.specs.Run.{cell}
-use Rattle.knowledge.specs.Runs.{follow_decides, steady_decides}
+use Rattle.knowledge.proofs.Runs.{follow_decides, steady_decides}
 use Rattle.counter_runs.proofs.Walk.{Walked, start, step, finish, fail, ended}
 use Rattle.counter_runs.proofs.is_steady.Statement.{statement}
 use Rattle.counter_runs.proofs.is_steady.Tie as tie

@@ -8,11 +8,11 @@ use Prim.Native.Nat.{ℕ, ◌-◌, ◌≤◌, ◌<◌}
 use native.Mathlib.Decide.{ℕ_discrete}
 use native.Mathlib.Omega.{arith}
 use lib.ListN.{length}
-use Rattle.decide.specs.Laws.{is_false, fails, agree, same, equal}
+use Rattle.decide.proofs.Laws.{is_false, fails, agree, same, equal}
 use Rattle.knowledge.specs.declared.Found.{Found}
 use Rattle.knowledge.specs.Knowledge.{none, Follow, follow}
 use Rattle.knowledge.specs.Run.{cell, May, Back, Previous}
-use Rattle.knowledge.specs.Runs.{follow_decides, may_decides}
+use Rattle.knowledge.proofs.Runs.{follow_decides, may_decides}
 use Rattle.counter_runs.proofs.Searching.{known_before}
 use Rattle.counter_runs.proofs.Putting.{again, may_new, needs_below, needs_above}
 use Rattle.counter_runs.proofs.may_store.Statement.{statement}

@@ -7,7 +7,7 @@ use Prim.Native.Nat.{ℕ, ◌+◌, ◌-◌, ◌*◌, ◌≤◌}
 use native.Mathlib.Omega.{arith}
 use borrow.Author.Rules.{rules}
 use lib.ListN.{length, take, drop, length-take, length-drop}
-use Rattle.rows.specs.Grid.{next_row}
+use Rattle.rows.proofs.Grid.{next_row}
 use Rattle.evaluation.proofs.Work.{given_back}
 use Rattle.evaluation.proofs.Standing.{standing_le}
 use Rattle.evaluation.proofs.Concluding.{Concluded, none_yet, no_rule, rule_fits, renamed, one_rule, all_lines}

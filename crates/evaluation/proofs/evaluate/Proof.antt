@@ -9,9 +9,9 @@ use borrow.Author.Rules.{rules}
 use lib.ListN.{length, take, drop, length-take, length-drop, length-replicate}
 use lib.Seq.{length-take-le}
 use Rattle.rows.specs.Over.{Over}
-use Rattle.rows.specs.Laws.{untouched}
-use Rattle.rows.specs.Grid.{next_row}
-use Rattle.rows.specs.Parts.{from_front}
+use Rattle.rows.proofs.Laws.{untouched}
+use Rattle.rows.proofs.Grid.{next_row}
+use Rattle.rows.proofs.Parts.{from_front}
 use Rattle.knowledge.specs.Knowledge.{Knowledge}
 use Rattle.valuation.specs.Sheets.{value, valuation_of}
 use Rattle.valuation.specs.Rows.{Points}

@@ -7,7 +7,7 @@ use borrow.Author.Rules.{rules}
 use lib.ListN.{length, get_or, take, length-take}
 use lib.Seq.{take-length}
 use Rattle.rows.specs.Over.{Over}
-use Rattle.rows.specs.Laws.{untouched, one_more}
+use Rattle.rows.proofs.Laws.{untouched, one_more}
 use Rattle.valuation.specs.Sheets.{standing}
 use Rattle.valuation.specs.Verdicts.{verdict_code}
 use Rattle.evaluation.proofs.Standing.{at_most_one, standing_le, standing_more}

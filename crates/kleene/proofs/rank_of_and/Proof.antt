@@ -6,7 +6,8 @@ use lib.Dec.{eqb}
 use borrow.Author.Rules.{rules}
 use Rattle.kleene.specs.Truth.{Truth, value_of, not3, or3}
 use Rattle.kleene.specs.Rank.{rank_of}
-use Rattle.kleene.specs.Tests.{known_code, literal, says, not_says, or_says, says_true, says_false, says_neither}
+use Rattle.kleene.specs.Tests.{known_code, literal, says}
+use Rattle.kleene.proofs.Tests.{not_says, or_says, says_true, says_false, says_neither}
 use Rattle.kleene.proofs.rank_of_and.Statement.{statement}
 use Rattle.kleene.proofs.rank_of_and.Tie as tie
 

@@ -2,7 +2,7 @@
 -- Assumes nothing.
 use borrow.Author.Tests.{not-true, not-false}
 use mathlib.Core.Path.{◌∙◌}
-use Rattle.decide.specs.Laws.{first}
+use Rattle.decide.proofs.Laws.{first}
 use borrow.Author.Rules.{rules}
 use Rattle.knowledge_store.proofs.admits_observation.Statement.{statement}
 use Rattle.knowledge_store.proofs.admits_observation.Tie as tie

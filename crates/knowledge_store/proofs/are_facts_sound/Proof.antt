@@ -9,7 +9,7 @@ use native.Mathlib.Omega.{arith}
 use lib.ListN.{get_or}
 use lib.Pow.{shl_exact}
 use Rattle.mtl.specs.Algebra.{two, all}
-use Rattle.decide.specs.Laws.{each_fails, each_more}
+use Rattle.decide.proofs.Laws.{each_fails, each_more}
 use Rattle.knowledge.specs.Knowledge.{word_sound}
 use Rattle.knowledge_store.proofs.are_facts_sound.Statement.{statement}
 use Rattle.knowledge_store.proofs.are_facts_sound.Tie as tie

@@ -2,8 +2,8 @@
 -- Assumes nothing.
 use mathlib.Core.Path.{◌≡◌, refl}
 use native.Mathlib.Omega.{arith}
-use Rattle.rows.specs.Laws.{untouched, one_more}
-use Rattle.rows.specs.Filled.{cleared}
+use Rattle.rows.proofs.Laws.{untouched, one_more}
+use Rattle.rows.proofs.Filled.{cleared}
 use Prim.Native.Nat.{◌-◌, ◌≤◌, zero-le}
 use borrow.Author.Rules.{rules}
 use lib.ListN.{length}

@@ -4,7 +4,7 @@ use mathlib.Core.Path.{refl, subst}
 use Prim.Native.Nat.{ℕ, ◌-◌, ◌≤◌}
 use native.Mathlib.Omega.{arith}
 use Rattle.rows.specs.Over.{Over}
-use Rattle.rows.specs.Laws.{untouched, one_more}
+use Rattle.rows.proofs.Laws.{untouched, one_more}
 use Rattle.knowledge_store.proofs.fill.Statement.{statement}
 use Rattle.knowledge_store.proofs.fill.Tie as tie
 

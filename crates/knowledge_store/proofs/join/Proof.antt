@@ -6,7 +6,7 @@ use native.Mathlib.Omega.{arith}
 use mathlib.Core.Bool.{cond}
 use Rattle.kleene.specs.Truth.{unknown, true3, code_of, value_of, or3}
 use Rattle.rows.specs.Over.{Over}
-use Rattle.rows.specs.Laws.{untouched, one_more}
+use Rattle.rows.proofs.Laws.{untouched, one_more}
 use Rattle.knowledge.specs.Run.{joined}
 use Rattle.knowledge_store.proofs.join.Statement.{statement}
 use Rattle.knowledge_store.proofs.join.Tie as tie

@@ -6,7 +6,7 @@ use mathlib.Core.Bool.{Bool, false, cond}
 use lib.ListN.{get_or, set}
 use Rattle.kleene.specs.Truth.{Truth, unknown, true3, code_of, value_of, or3}
 use Rattle.rows.specs.Over.{Over}
-use Rattle.rows.specs.Laws.{untouched, one_more}
+use Rattle.rows.proofs.Laws.{untouched, one_more}
 use Rattle.knowledge.specs.Knowledge.{says}
 use Rattle.knowledge.specs.Outwards.{full_gap}
 use Rattle.knowledge.specs.Run.{joined}

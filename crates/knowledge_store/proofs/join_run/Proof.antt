@@ -5,7 +5,7 @@ use Prim.Native.Nat.{ℕ, suc, ◌-◌, ◌≤◌, ◌<◌, min}
 use native.Mathlib.Omega.{arith}
 use lib.ListN.{length}
 use Rattle.rows.specs.Over.{Over}
-use Rattle.rows.specs.Laws.{untouched}
+use Rattle.rows.proofs.Laws.{untouched}
 use Rattle.knowledge.specs.Knowledge.{none, most_minutes, says}
 use Rattle.knowledge.specs.Run.{cell, joined, told}
 use Rattle.knowledge.specs.Outwards.{full_gap}

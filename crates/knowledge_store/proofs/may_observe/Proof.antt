@@ -7,7 +7,7 @@ use mathlib.Core.Bool.{Bool}
 use Prim.Native.Nat.{ℕ, suc, ◌+◌}
 use native.Mathlib.Numerals.{add-one}
 use lib.ListN.{length}
-use Rattle.decide.specs.Laws.{first}
+use Rattle.decide.proofs.Laws.{first}
 use Rattle.knowledge.specs.Run.{cell, may}
 use Rattle.knowledge_store.proofs.may_observe.Statement.{statement}
 use Rattle.knowledge_store.proofs.may_observe.Tie as tie

@@ -6,7 +6,7 @@ use native.Mathlib.Omega.{arith}
 use mathlib.Core.List.{List}
 use lib.ListN.{length, get_or, length-replicate}
 use Rattle.kleene.specs.Truth.{code_of}
-use Rattle.rows.specs.Laws.{zeros}
+use Rattle.rows.proofs.Laws.{zeros}
 use Rattle.knowledge.specs.Knowledge.{most_minutes}
 use Rattle.counter_runs.proofs.Parts.{part_long, part_is_steady, part_told, one_run, room}
 use Rattle.knowledge_store.proofs.Points.{points, all_points, row_codes, one_more_run}

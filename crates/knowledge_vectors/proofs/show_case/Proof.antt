@@ -10,11 +10,12 @@ use Rattle.refusal.specs.declared.Answer.TheVariants.{Accepted}
 use Rattle.message.specs.declared.Decoded.{Decoded}
 use Rattle.message.specs.Format.{first_of, used_of}
 use Rattle.message.specs.Fixes.{Fits, WellFormed}
-use Rattle.message.specs.Laws.{fits, decoded, decoded_answer}
-use Rattle.message.specs.First.{alone}
-use Rattle.knowledge.specs.Laws.{Limits, sound_law}
+use Rattle.message.proofs.Laws.{fits, decoded, decoded_answer}
+use Rattle.message.proofs.First.{alone}
+use Rattle.knowledge.specs.Laws.{Limits}
+use Rattle.knowledge.proofs.Laws.{sound_law}
 use Rattle.knowledge.specs.Run.{held, sent}
-use Rattle.knowledge.specs.Runs.{runs_of}
+use Rattle.knowledge.proofs.Runs.{runs_of}
 use borrow.Author.Rules.{rules}
 use Rattle.knowledge_vectors.proofs.show_case.Statement.{statement}
 use Rattle.knowledge_vectors.proofs.show_case.Tie as tie

@@ -4,7 +4,7 @@ use mathlib.Core.Path.{◌≡◌}
 use native.Mathlib.Omega.{arith}
 use lib.ListN.{length}
 use borrow.Author.Rules.{rules}
-use Rattle.knowledge.specs.Nearest.{in_order}
+use Rattle.knowledge.proofs.Nearest.{in_order}
 use Rattle.knowledge_vectors.proofs.show_search.Statement.{statement}
 use Rattle.knowledge_vectors.proofs.show_search.Tie as tie
 

@@ -3,7 +3,7 @@ use borrow.Author.Rules.{rules}
 use mathlib.Core.Path.{◌≡◌, refl}
 use mathlib.Core.Bool.{Bool, true, false, cond}
 use mir.Val.{bool_byte}
-use Rattle.line_table.specs.Laws.{six_stored}
+use Rattle.line_table.proofs.Laws.{six_stored}
 use Rattle.line_table.proofs.set_line.Statement.{statement}
 use Rattle.line_table.proofs.set_line.Tie as tie
 

@@ -2,7 +2,7 @@
 use mathlib.Core.Path.{sym}
 use native.Mathlib.Omega.{arith}
 use lib.Count.{ones-le}
-use Rattle.bits.specs.Packed.{below_ones}
+use Rattle.bits.proofs.Packed.{below_ones}
 use Rattle.message_codec.proofs.count.Statement.{statement}
 use Rattle.message_codec.proofs.count.Tie as tie
 

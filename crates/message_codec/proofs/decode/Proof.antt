@@ -2,7 +2,7 @@
 use mathlib.Core.Path.{sym, ap, ◌∙◌}
 use borrow.Author.Tests.{not-true, not-false}
 use Rattle.message.specs.Format.{good_fields}
-use Rattle.message.specs.First.{answered, answer_early, answer_bad, answer_good}
+use Rattle.message.proofs.First.{answered, answer_early, answer_bad, answer_good}
 use Rattle.message_codec.proofs.Reading.{told, accepted}
 use borrow.Author.Rules.{rules}
 use Rattle.message_codec.proofs.decode.Statement.{statement}

@@ -5,7 +5,7 @@ use native.Mathlib.Omega.{arith}
 use lib.Dec.{ltb}
 use lib.Pow.{pow_mono}
 use borrow.Author.Tests.{lt-ltb}
-use Rattle.bits.specs.Places.{weight}
+use Rattle.bits.proofs.Places.{weight}
 use borrow.Author.Rules.{rules}
 use Rattle.message_codec.proofs.fits_below.Statement.{statement}
 use Rattle.message_codec.proofs.fits_below.Tie as tie

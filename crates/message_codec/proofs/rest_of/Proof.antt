@@ -1,7 +1,7 @@
 -- The length tells how many bytes the first message takes, and the part behind them starts there, in the caller's own block. Assumes nothing.
 use mathlib.Core.Path.{sym, ◌∙◌}
 use native.Mathlib.Omega.{arith}
-use Rattle.message.specs.First.{used_whole, used_early}
+use Rattle.message.proofs.First.{used_whole, used_early}
 use Rattle.message_codec.proofs.Reading.{told, part_from}
 use borrow.Author.Rules.{rules}
 use Rattle.message_codec.proofs.rest_of.Statement.{statement}

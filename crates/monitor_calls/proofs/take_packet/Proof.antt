@@ -2,7 +2,7 @@
 -- Assumes nothing.
 use Rattle.knowledge.specs.Run.{held}
 use Rattle.monitor.specs.State.{lent}
-use Rattle.monitor.specs.Laws.{knowledge_sized}
+use Rattle.monitor.proofs.Laws.{knowledge_sized}
 use Rattle.monitor_checks.proofs.Checking.{limits}
 use Rattle.monitor_calls.proofs.Packets.{none_taken, some_needs, some_taken}
 use borrow.Author.Rules.{rules}

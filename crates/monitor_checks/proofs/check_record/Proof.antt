@@ -4,7 +4,7 @@ use mathlib.Core.Path.{sym, ◌∙◌}
 use borrow.Author.Tests.{not-true, not-false}
 use Rattle.origin.specs.Origin.{stamped}
 use Rattle.monitor.specs.State.{lent}
-use Rattle.monitor.specs.Laws.{knowledge_sized}
+use Rattle.monitor.proofs.Laws.{knowledge_sized}
 use Rattle.monitor_checks.proofs.Checking.{limits, sizes_read, sizes_passed, policy_short, record_refused, record_other, record_corrupt, record_fine}
 use borrow.Author.Rules.{rules}
 use Rattle.monitor_checks.proofs.check_record.Statement.{statement}

@@ -2,7 +2,7 @@
 -- Assumes nothing.
 use mathlib.Core.Path.{sym, ◌∙◌}
 use borrow.Author.Tests.{not-true, not-false}
-use Rattle.policy.specs.ReadPolicy.{read_policy}
+use Rattle.policy.proofs.ReadPolicy.{read_policy}
 use Rattle.monitor_checks.proofs.Checking.{sizes_refused, sizes_misfit, sizes_fine}
 use borrow.Author.Rules.{rules}
 use Rattle.monitor_checks.proofs.check_sizes.Statement.{statement}

@@ -2,8 +2,8 @@
 -- Assumes nothing.
 use mathlib.Core.Path.{◌∙◌}
 use Rattle.monitor_lookup.proofs.Looking.{refused_look, read_look}
-use Rattle.policy.specs.Laws.{answered}
-use Rattle.policy.specs.ReadPolicy.{read_policy}
+use Rattle.policy.proofs.Laws.{answered}
+use Rattle.policy.proofs.ReadPolicy.{read_policy}
 use borrow.Author.Rules.{rules}
 use Rattle.monitor_lookup.proofs.lookup.Statement.{statement}
 use Rattle.monitor_lookup.proofs.lookup.Tie as tie

@@ -1,7 +1,7 @@
 -- A code other than 1 and 2 reads as unknown.
 -- Assumes nothing.
 use mathlib.Core.Path.{sym}
-use Rattle.monitor.specs.Codes.{code_of_blank}
+use Rattle.monitor.proofs.Codes.{code_of_blank}
 use borrow.Author.Rules.{rules}
 use Rattle.monitor_lookup.proofs.verdict_of.Statement.{statement}
 use Rattle.monitor_lookup.proofs.verdict_of.Tie as tie

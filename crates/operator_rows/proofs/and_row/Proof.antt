@@ -9,7 +9,7 @@ use lib.ListN.{length, get_or}
 use Rattle.kleene.specs.Truth.{Truth, code_of, value_of, and3}
 use Rattle.kleene.specs.Tests.{literal}
 use Rattle.rows.specs.Over.{Over}
-use Rattle.rows.specs.Laws.{untouched, one_more}
+use Rattle.rows.proofs.Laws.{untouched, one_more}
 use Rattle.operator_rows.proofs.and_row.Statement.{statement}
 use Rattle.operator_rows.proofs.and_row.Tie as tie
 

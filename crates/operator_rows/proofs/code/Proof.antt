@@ -2,7 +2,8 @@
 use mathlib.Core.Path.{sym, ap, ◌∙◌}
 use borrow.Author.Tests.{leb-true, leb-false}
 use Rattle.kleene.specs.Truth.{code_of}
-use Rattle.kleene.specs.Rank.{rank_of, reaches_true, reaches_unknown, reaches_none}
+use Rattle.kleene.specs.Rank.{rank_of}
+use Rattle.kleene.proofs.Rank.{reaches_true, reaches_unknown, reaches_none}
 use Rattle.operator_rows.proofs.code.Statement.{statement}
 use Rattle.operator_rows.proofs.code.Tie as tie
 

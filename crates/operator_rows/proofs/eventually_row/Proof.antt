@@ -8,7 +8,7 @@ use lib.ListN.{length, length-set}
 use Rattle.kleene.specs.Truth.{Truth, code_of}
 use Rattle.kleene.specs.Tests.{literal}
 use Rattle.rows.specs.Over.{Over}
-use Rattle.rows.specs.Laws.{untouched, one_before}
+use Rattle.rows.proofs.Laws.{untouched, one_before}
 use Rattle.mtl.specs.Algebra.{three}
 use Rattle.mtl.specs.Reading.{World, point, until}
 use Rattle.valuation.specs.Rows.{Shows, Unbroken}

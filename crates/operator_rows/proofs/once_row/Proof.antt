@@ -8,7 +8,7 @@ use lib.ListN.{length, length-set}
 use Rattle.kleene.specs.Truth.{Truth, code_of}
 use Rattle.kleene.specs.Tests.{literal}
 use Rattle.rows.specs.Over.{Over}
-use Rattle.rows.specs.Laws.{untouched, one_more}
+use Rattle.rows.proofs.Laws.{untouched, one_more}
 use Rattle.mtl.specs.Algebra.{three}
 use Rattle.mtl.specs.Reading.{World, point, since}
 use Rattle.valuation.specs.Rows.{Shows, Unbroken}

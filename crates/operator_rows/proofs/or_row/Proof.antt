@@ -6,7 +6,7 @@ use native.Mathlib.Omega.{arith}
 use lib.ListN.{length, get_or}
 use Rattle.kleene.specs.Truth.{Truth, code_of, value_of, or3}
 use Rattle.rows.specs.Over.{Over}
-use Rattle.rows.specs.Laws.{untouched, one_more}
+use Rattle.rows.proofs.Laws.{untouched, one_more}
 use Rattle.operator_rows.proofs.or_row.Statement.{statement}
 use Rattle.operator_rows.proofs.or_row.Tie as tie
 

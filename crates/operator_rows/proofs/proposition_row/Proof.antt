@@ -6,7 +6,7 @@ use native.Mathlib.Omega.{arith}
 use lib.ListN.{length, get_or, length-set}
 use Rattle.kleene.specs.Truth.{code_of}
 use Rattle.rows.specs.Over.{Over}
-use Rattle.rows.specs.Laws.{untouched, one_more}
+use Rattle.rows.proofs.Laws.{untouched, one_more}
 use Rattle.knowledge.specs.Knowledge.{Knowledge, fact}
 use Rattle.operator_rows.proofs.proposition_row.Statement.{statement}
 use Rattle.operator_rows.proofs.proposition_row.Tie as tie

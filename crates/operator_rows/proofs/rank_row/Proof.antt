@@ -9,7 +9,7 @@ use Rattle.kleene.specs.Truth.{value_of, and3}
 use Rattle.kleene.specs.Rank.{rank_of}
 use Rattle.kleene.specs.Tests.{literal}
 use Rattle.rows.specs.Over.{Over}
-use Rattle.rows.specs.Laws.{untouched, one_more}
+use Rattle.rows.proofs.Laws.{untouched, one_more}
 use Rattle.operator_rows.proofs.Shown.{ranked_at}
 use Rattle.operator_rows.proofs.rank_row.Statement.{statement}
 use Rattle.operator_rows.proofs.rank_row.Tie as tie

@@ -5,8 +5,10 @@ use mathlib.Core.Bool.{Bool}
 use borrow.Author.Rules.{rules}
 use borrow.Author.Tests.{leb-true, leb-false}
 use Rattle.kleene.specs.Truth.{Truth, code_of}
-use Rattle.kleene.specs.Rank.{rank_of, reaches_true, reaches_unknown, reaches_none}
-use Rattle.kleene.specs.Tests.{literal, known_true, known_false, known_open}
+use Rattle.kleene.specs.Rank.{rank_of}
+use Rattle.kleene.proofs.Rank.{reaches_true, reaches_unknown, reaches_none}
+use Rattle.kleene.specs.Tests.{literal}
+use Rattle.kleene.proofs.Tests.{known_true, known_false, known_open}
 use Rattle.operator_rows.proofs.signed_code.Statement.{statement}
 use Rattle.operator_rows.proofs.signed_code.Tie as tie
 

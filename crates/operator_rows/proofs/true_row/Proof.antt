@@ -3,7 +3,7 @@ use mathlib.Core.Path.{refl, ◌∙◌}
 use Prim.Native.Nat.{◌-◌, ◌≤◌}
 use native.Mathlib.Omega.{arith}
 use Rattle.rows.specs.Over.{Over}
-use Rattle.rows.specs.Laws.{untouched, one_more}
+use Rattle.rows.proofs.Laws.{untouched, one_more}
 use Rattle.operator_rows.proofs.true_row.Statement.{statement}
 use Rattle.operator_rows.proofs.true_row.Tie as tie
 

@@ -5,8 +5,8 @@ use mathlib.Core.Path.{◌≡◌}
 use native.Mathlib.Omega.{arith}
 use lib.ListN.{length, get_or}
 use Rattle.rows.specs.Over.{Over}
-use Rattle.rows.specs.Laws.{untouched, one_more}
-use Rattle.rows.specs.Filled.{filled}
+use Rattle.rows.proofs.Laws.{untouched, one_more}
+use Rattle.rows.proofs.Filled.{filled}
 use borrow.Author.Rules.{rules}
 use Rattle.origin.proofs.fill.Statement.{statement}
 use Rattle.origin.proofs.fill.Tie as tie

@@ -5,7 +5,7 @@ use mathlib.Core.Path.{◌≡◌}
 use native.Mathlib.Omega.{arith}
 use lib.ListN.{length}
 use Rattle.decide.specs.Decide.{Decides}
-use Rattle.decide.specs.Laws.{equal}
+use Rattle.decide.proofs.Laws.{equal}
 use Rattle.origin.proofs.Comparing.{SameByte, nothing_yet, one_more}
 use borrow.Author.Rules.{rules}
 use Rattle.origin.proofs.starts_with.Statement.{statement}

@@ -1,7 +1,7 @@
 -- Each way out is one check of `answer_of`, with the checks before it passed. Assumes nothing.
 use Rattle.policy_codec.proofs.Decoding.{refuses}
-use Rattle.policy.specs.Causes.{no_heading, in_heading}
-use Rattle.refusal.specs.Laws.{refusal_law}
+use Rattle.policy.proofs.Causes.{no_heading, in_heading}
+use Rattle.refusal.proofs.Laws.{refusal_law}
 use mathlib.Core.Path.{sym, ◌∙◌}
 use borrow.Author.Rules.{rules}
 use Rattle.policy_codec.proofs.decode.Statement.{statement}

@@ -1,7 +1,7 @@
 -- The lines answer, and then the closing checks; where both accept, the fields are those of `policy_of`. Assumes nothing.
 use Rattle.policy_codec.proofs.Decoding.{refuses, accepts, line_refused, closing_refused, all_passed}
-use Rattle.refusal.specs.Laws.{passing_law}
-use Rattle.policy.specs.Causes.{headed}
+use Rattle.refusal.proofs.Laws.{passing_law}
+use Rattle.policy.proofs.Causes.{headed}
 use native.Mathlib.Omega.{arith}
 use mathlib.Core.Path.{sym, ◌∙◌}
 use borrow.Author.Rules.{rules}

@@ -1,6 +1,6 @@
 -- `size_of` of the bit that `has` reads, and a size is at most n. Assumes nothing.
 use native.Mathlib.Omega.{arith}
-use Rattle.encoding.specs.Laws.{size_most}
+use Rattle.encoding.proofs.Laws.{size_most}
 use borrow.Author.Rules.{rules}
 use Rattle.policy_codec.proofs.field_size.Statement.{statement}
 use Rattle.policy_codec.proofs.field_size.Tie as tie

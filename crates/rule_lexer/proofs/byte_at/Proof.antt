@@ -1,5 +1,5 @@
 -- Past the end the byte is 0. Assumes nothing.
-use Rattle.rule_text.specs.Laws.{past_end}
+use Rattle.rule_text.proofs.Laws.{past_end}
 use borrow.Author.Rules.{rules}
 use Rattle.rule_lexer.proofs.byte_at.Statement.{statement}
 use Rattle.rule_lexer.proofs.byte_at.Tie as tie

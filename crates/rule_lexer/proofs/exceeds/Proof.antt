@@ -3,7 +3,7 @@ use borrow.Author.Rules.{rules}
 use Prim.Native.Nat.{ℕ, ◌+◌, ◌-◌, ◌≤◌, ◌<◌}
 use mathlib.Core.Path.{◌≡◌}
 use lib.ListN.{get_or}
-use Rattle.rule_text.specs.Laws.{by_length, by_digit, no_difference, cells_next}
+use Rattle.rule_text.proofs.Laws.{by_length, by_digit, no_difference, cells_next}
 use native.Mathlib.Omega.{arith}
 use Rattle.rule_lexer.proofs.exceeds.Statement.{statement}
 use Rattle.rule_lexer.proofs.exceeds.Tie as tie

@@ -1,7 +1,7 @@
 -- Each return is a law of `Terms`. Assumes nothing.
 use mathlib.Core.Path.{sym, ◌∙◌}
-use Rattle.rule_text.specs.Laws.{inside_text}
-use Rattle.rule_text.specs.Terms.{no_bracket, no_number, without_comma, comma}
+use Rattle.rule_text.proofs.Laws.{inside_text}
+use Rattle.rule_text.proofs.Terms.{no_bracket, no_number, without_comma, comma}
 use native.Mathlib.Omega.{arith}
 use borrow.Author.Rules.{rules}
 use Rattle.rule_lexer.proofs.interval_at.Statement.{statement}

@@ -1,8 +1,8 @@
 -- Each word is told by its first byte. Assumes nothing.
 use mathlib.Core.Path.{refl, sym, ◌∙◌}
 use Rattle.rule_grammar.specs.Term.{Or, And, Since, Until}
-use Rattle.rule_text.specs.Laws.{inside_text}
-use Rattle.rule_text.specs.Terms.{joint_no_space, no_joint, plain_joint, timed_joint}
+use Rattle.rule_text.proofs.Laws.{inside_text}
+use Rattle.rule_text.proofs.Terms.{joint_no_space, no_joint, plain_joint, timed_joint}
 use native.Mathlib.Omega.{arith}
 use borrow.Author.Rules.{rules}
 use Rattle.rule_lexer.proofs.joint_at.Statement.{statement}

@@ -2,7 +2,8 @@
 use borrow.Author.Rules.{rules}
 use Prim.Native.Nat.{◌-◌}
 use lib.ListN.{length}
-use Rattle.rule_text.specs.Laws.{Matched, match_start, match_next, match_stop, match_ended, match_whole}
+use Rattle.rule_text.specs.Laws.{Matched}
+use Rattle.rule_text.proofs.Laws.{match_start, match_next, match_stop, match_ended, match_whole}
 use native.Mathlib.Omega.{arith}
 use Rattle.rule_lexer.proofs.matching.Statement.{statement}
 use Rattle.rule_lexer.proofs.matching.Tie as tie

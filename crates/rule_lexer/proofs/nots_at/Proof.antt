@@ -2,8 +2,9 @@
 use borrow.Author.Rules.{rules}
 use Prim.Native.Nat.{◌-◌, ◌+◌}
 use mathlib.Core.Path.{sym, ◌∙◌}
-use Rattle.rule_text.specs.Laws.{inside_text}
-use Rattle.rule_text.specs.Descent.{Negations, nots_start, nots_many, nots_read, nots_cut, nots_next, nots_room}
+use Rattle.rule_text.proofs.Laws.{inside_text}
+use Rattle.rule_text.specs.Descent.{Negations}
+use Rattle.rule_text.proofs.Descent.{nots_start, nots_many, nots_read, nots_cut, nots_next, nots_room}
 use native.Mathlib.Omega.{arith}
 use Rattle.rule_lexer.proofs.nots_at.Statement.{statement}
 use Rattle.rule_lexer.proofs.nots_at.Tie as tie

@@ -4,7 +4,8 @@ use Prim.Native.Nat.{◌-◌}
 use mathlib.Core.Path.{refl, sym, ap, ◌∙◌}
 use lib.ListN.{length}
 use Rattle.rule_grammar.specs.Numeral.{digit}
-use Rattle.rule_text.specs.Laws.{inside_text, digit_inside, zero_number, Scanned, scan_start, scan_on, scan_end}
+use Rattle.rule_text.specs.Laws.{Scanned}
+use Rattle.rule_text.proofs.Laws.{inside_text, digit_inside, zero_number, scan_start, scan_on, scan_end}
 use native.Mathlib.Omega.{arith}
 use Rattle.rule_lexer.proofs.number_at.Statement.{statement}
 use Rattle.rule_lexer.proofs.number_at.Tie as tie

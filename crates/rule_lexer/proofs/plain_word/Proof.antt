@@ -1,5 +1,5 @@
 -- The word stands there, or part of it. Assumes nothing.
-use Rattle.rule_text.specs.Terms.{word_cut, word_done}
+use Rattle.rule_text.proofs.Terms.{word_cut, word_done}
 use native.Mathlib.Omega.{arith}
 use Rattle.rule_lexer.proofs.plain_word.Statement.{statement}
 use Rattle.rule_lexer.proofs.plain_word.Tie as tie

@@ -1,7 +1,7 @@
 -- The word stands there, or part of it; then its interval. Assumes nothing.
 use mathlib.Core.Path.{sym, ◌∙◌}
-use Rattle.rule_text.specs.Laws.{inside_text}
-use Rattle.rule_text.specs.Terms.{timed_cut, timed_refused, narrow, no_space, timed_done}
+use Rattle.rule_text.proofs.Laws.{inside_text}
+use Rattle.rule_text.proofs.Terms.{timed_cut, timed_refused, narrow, no_space, timed_done}
 use native.Mathlib.Omega.{arith}
 use borrow.Author.Rules.{rules}
 use Rattle.rule_lexer.proofs.timed_word.Statement.{statement}

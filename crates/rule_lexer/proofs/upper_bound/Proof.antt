@@ -1,7 +1,7 @@
 -- Each return is a law of `Terms`. Assumes nothing.
 use mathlib.Core.Path.{sym, ◌∙◌}
-use Rattle.rule_text.specs.Laws.{inside_text}
-use Rattle.rule_text.specs.Terms.{comma_inside, no_second, second_inside, not_closed, crossed, far_first, far_second, interval_read}
+use Rattle.rule_text.proofs.Laws.{inside_text}
+use Rattle.rule_text.proofs.Terms.{comma_inside, no_second, second_inside, not_closed, crossed, far_first, far_second, interval_read}
 use native.Mathlib.Omega.{arith}
 use borrow.Author.Rules.{rules}
 use Rattle.rule_lexer.proofs.upper_bound.Statement.{statement}

@@ -1,7 +1,7 @@
 -- A digit is at least "0", and the test decides. Assumes nothing.
 use mathlib.Core.Path.{refl}
 use borrow.Author.Tests.{le-leb, lt-leb}
-use Rattle.rule_grammar.specs.Spelling.{digit_range}
+use Rattle.rule_grammar.proofs.Spelling.{digit_range}
 use native.Mathlib.Omega.{arith}
 use borrow.Author.Rules.{rules}
 use Rattle.rule_lexer.proofs.with_digit.Statement.{statement}

@@ -3,8 +3,8 @@ use borrow.Author.Rules.{rules}
 use Prim.Native.Nat.{◌+◌, ◌*◌}
 use native.Mathlib.Omega.{arith}
 use mathlib.Core.Path.{sym, ◌∙◌}
-use Rattle.rule_text.specs.Laws.{inside_text}
-use Rattle.rule_text.specs.Descent.{term_refused, run_few, term_nested, leaf_room, leaf_size, term_leaf, group_room, group_size, term_group, left_size, group_left, left_grown, group_word, read_room, group_read}
+use Rattle.rule_text.proofs.Laws.{inside_text}
+use Rattle.rule_text.proofs.Descent.{term_refused, run_few, term_nested, leaf_room, leaf_size, term_leaf, group_room, group_size, term_group, left_size, group_left, left_grown, group_word, read_room, group_read}
 use Prim.Native.Nat.{ℕ, ◌<◌}
 use borrow.Fn.Kinds.{In}
 use borrow.Fn.PlainCycle.{Measures, is, falls, and}

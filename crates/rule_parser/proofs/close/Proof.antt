@@ -1,7 +1,7 @@
 -- A refusal is handed on; else the ")" decides. Assumes nothing.
 use mathlib.Core.Path.{sym, ◌∙◌}
-use Rattle.rule_text.specs.Laws.{inside_text}
-use Rattle.rule_text.specs.Descent.{closed_refused, closed_not, closed_read, room_read}
+use Rattle.rule_text.proofs.Laws.{inside_text}
+use Rattle.rule_text.proofs.Descent.{closed_refused, closed_not, closed_read, room_read}
 use native.Mathlib.Omega.{arith}
 use borrow.Author.Rules.{rules}
 use Rattle.rule_parser.proofs.close.Statement.{statement}

@@ -1,7 +1,7 @@
 -- Each return is a law of `Writing`. Assumes nothing.
 use mathlib.Core.Path.{refl, sym, ◌∙◌}
 use borrow.Author.Tests.{not-true, not-false}
-use Rattle.rule_text.specs.Writing.{sizes_small, compiled_bad, compiled_refused, read_count, compiled_read}
+use Rattle.rule_text.proofs.Writing.{sizes_small, compiled_bad, compiled_refused, read_count, compiled_read}
 use borrow.Author.Rules.{rules}
 use Rattle.rule_parser.proofs.compile.Statement.{statement}
 use Rattle.rule_parser.proofs.compile.Tie as tie

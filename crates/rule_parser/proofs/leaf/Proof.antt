@@ -1,7 +1,7 @@
 -- Each return is a law of `Descent`. Assumes nothing.
 use mathlib.Core.Path.{sym, ◌∙◌}
-use Rattle.rule_text.specs.Laws.{inside_text}
-use Rattle.rule_text.specs.Descent.{leaf_cut, leaf_true, leaf_other, leaf_no_number, leaf_far, leaf_mark}
+use Rattle.rule_text.proofs.Laws.{inside_text}
+use Rattle.rule_text.proofs.Descent.{leaf_cut, leaf_true, leaf_other, leaf_no_number, leaf_far, leaf_mark}
 use native.Mathlib.Omega.{arith}
 use borrow.Author.Rules.{rules}
 use Rattle.rule_parser.proofs.leaf.Statement.{statement}

@@ -1,5 +1,5 @@
 -- A refusal is handed on; else the run's lines follow. Assumes nothing.
-use Rattle.rule_text.specs.Descent.{negated_refused, negated_read, room_read}
+use Rattle.rule_text.proofs.Descent.{negated_refused, negated_read, room_read}
 use native.Mathlib.Omega.{arith}
 use borrow.Author.Rules.{rules}
 use Rattle.rule_parser.proofs.negated.Statement.{statement}

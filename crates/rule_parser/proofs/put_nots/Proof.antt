@@ -1,6 +1,7 @@
 -- Each turn one line more is stored (`Put`). Assumes nothing.
 use Prim.Native.Nat.{◌-◌}
-use Rattle.rule_text.specs.Descent.{Put, put_none, put_one, put_all}
+use Rattle.rule_text.specs.Descent.{Put}
+use Rattle.rule_text.proofs.Descent.{put_none, put_one, put_all}
 use native.Mathlib.Omega.{arith}
 use Rattle.rule_parser.proofs.put_nots.Statement.{statement}
 use Rattle.rule_parser.proofs.put_nots.Tie as tie

@@ -1,5 +1,5 @@
 -- A term, and nothing behind it. Assumes nothing.
-use Rattle.rule_text.specs.Descent.{rule_refused, rule_longer, rule_read}
+use Rattle.rule_text.proofs.Descent.{rule_refused, rule_longer, rule_read}
 use borrow.Author.Rules.{rules}
 use Rattle.rule_parser.proofs.rule.Statement.{statement}
 use Rattle.rule_parser.proofs.rule.Tie as tie

@@ -1,5 +1,5 @@
 -- The last line is stored again, as a rule. Assumes nothing.
-use Rattle.rule_text.specs.Writing.{rule_lines_set}
+use Rattle.rule_text.proofs.Writing.{rule_lines_set}
 use borrow.Author.Rules.{rules}
 use Rattle.rule_parser.proofs.rule_lines.Statement.{statement}
 use Rattle.rule_parser.proofs.rule_lines.Tie as tie

@@ -1,5 +1,5 @@
 -- The writer is given the lines. Assumes nothing.
-use Rattle.rule_text.specs.Writing.{encoded_with}
+use Rattle.rule_text.proofs.Writing.{encoded_with}
 use borrow.Author.Rules.{rules}
 use Rattle.rule_parser.proofs.write_rule.Statement.{statement}
 use Rattle.rule_parser.proofs.write_rule.Tie as tie

@@ -5,8 +5,10 @@ use mathlib.Core.Bool.{Bool, ◌&&◌}
 use lib.Dec.{ltb}
 use lib.ListN.{length, take}
 use native.Mathlib.Omega.{arith}
-use Rattle.compile_rule.specs.Choices.{run, run_more, run_whole}
-use Rattle.compile_rule.specs.Arguments.{with_digit, all_digits, numbered}
+use Rattle.compile_rule.specs.Choices.{run}
+use Rattle.compile_rule.proofs.Choices.{run_more, run_whole}
+use Rattle.compile_rule.specs.Arguments.{with_digit, all_digits}
+use Rattle.compile_rule.proofs.Arguments.{numbered}
 use borrow.Author.Rules.{rules}
 use Rattle.compile_rule.proofs.arguments.number.Statement.{statement}
 use Rattle.compile_rule.proofs.arguments.number.Tie as tie

@@ -1,7 +1,7 @@
 -- By the definition; the larger number counts as a million. Assumes nothing.
 use native.Mathlib.Omega.{arith}
 use mathlib.Core.Path.{refl}
-use Rattle.compile_rule.specs.Choices.{below, not_below}
+use Rattle.compile_rule.proofs.Choices.{below, not_below}
 use Rattle.compile_rule.specs.Arguments.{with_digit}
 use borrow.Author.Rules.{rules}
 use Rattle.compile_rule.proofs.arguments.with_digit.Statement.{statement}

@@ -1,5 +1,5 @@
 -- By the definition, byte by byte. Assumes nothing.
-use Rattle.compile_rule.specs.Choices.{equal, unequal}
+use Rattle.compile_rule.proofs.Choices.{equal, unequal}
 use Rattle.compile_rule.specs.Begun.{begin_term}
 use borrow.Author.Rules.{rules}
 use Rattle.compile_rule.proofs.beginning.begin_term.Statement.{statement}

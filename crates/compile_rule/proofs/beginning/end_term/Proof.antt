@@ -1,5 +1,5 @@
 -- By the definition. Assumes nothing.
-use Rattle.compile_rule.specs.Choices.{equal, unequal}
+use Rattle.compile_rule.proofs.Choices.{equal, unequal}
 use Rattle.compile_rule.specs.Begun.{end_term}
 use borrow.Author.Rules.{rules}
 use Rattle.compile_rule.proofs.beginning.end_term.Statement.{statement}

@@ -1,5 +1,5 @@
 -- By the definition. Assumes nothing.
-use Rattle.compile_rule.specs.Choices.{below, not_below}
+use Rattle.compile_rule.proofs.Choices.{below, not_below}
 use Rattle.compile_rule.specs.Begun.{go_on}
 use borrow.Author.Rules.{rules}
 use Rattle.compile_rule.proofs.beginning.go_on.Statement.{statement}

@@ -1,6 +1,6 @@
 -- By the definition. Assumes nothing.
 use mathlib.Core.Path.{refl}
-use Rattle.compile_rule.specs.Choices.{equal, unequal}
+use Rattle.compile_rule.proofs.Choices.{equal, unequal}
 use Rattle.compile_rule.specs.Begun.{go_on_bound}
 use borrow.Author.Rules.{rules}
 use Rattle.compile_rule.proofs.beginning.go_on_bound.Statement.{statement}

@@ -1,6 +1,6 @@
 -- By the definition. Assumes nothing.
 use mathlib.Core.Path.{refl, sym, ◌∙◌}
-use Rattle.compile_rule.specs.Choices.{taken, left}
+use Rattle.compile_rule.proofs.Choices.{taken, left}
 use Rattle.compile_rule.specs.Begun.{go_on_mark}
 use borrow.Author.Rules.{rules}
 use Rattle.compile_rule.proofs.beginning.go_on_mark.Statement.{statement}

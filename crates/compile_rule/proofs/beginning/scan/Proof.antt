@@ -3,7 +3,8 @@ use Prim.Native.Nat.{◌≤◌, ◌-◌}
 use mathlib.Core.Path.{◌≡◌, ◌∙◌}
 use lib.ListN.{take}
 use native.Mathlib.Omega.{arith}
-use Rattle.compile_rule.specs.Begun.{begun, begun_more, begun_none, begun_here}
+use Rattle.compile_rule.specs.Begun.{begun}
+use Rattle.compile_rule.proofs.Begun.{begun_more, begun_none, begun_here}
 use borrow.Author.Rules.{rules}
 use Rattle.compile_rule.proofs.beginning.scan.Statement.{statement}
 use Rattle.compile_rule.proofs.beginning.scan.Tie as tie

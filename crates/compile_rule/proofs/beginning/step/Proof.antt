@@ -1,6 +1,6 @@
 -- One arm for each of what may be expected. Assumes nothing.
 use Rattle.compile_rule.specs.declared.beginning.Expected.TheVariants.{Term, True, Not, Space, Mark, Ended, Joint, Or, And, Since, Until, Bracket, Lower, Upper}
-use Rattle.compile_rule.specs.Begun.{stepped}
+use Rattle.compile_rule.proofs.Begun.{stepped}
 use borrow.Author.Rules.{rules}
 use Rattle.compile_rule.proofs.beginning.step.Statement.{statement}
 use Rattle.compile_rule.proofs.beginning.step.Tie as tie

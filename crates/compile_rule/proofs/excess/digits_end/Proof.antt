@@ -4,8 +4,9 @@ use mathlib.Core.Path.{◌≡◌, sym, ◌∙◌}
 use mathlib.Core.Bool.{true}
 use lib.ListN.{length, get_or}
 use native.Mathlib.Omega.{arith}
-use Rattle.compile_rule.specs.Choices.{digit, digit_past}
-use Rattle.compile_rule.specs.Words.{digits_more}
+use Rattle.compile_rule.specs.Choices.{digit}
+use Rattle.compile_rule.proofs.Choices.{digit_past}
+use Rattle.compile_rule.proofs.Words.{digits_more}
 use borrow.Author.Rules.{rules}
 use Rattle.compile_rule.proofs.excess.digits_end.Statement.{statement}
 use Rattle.compile_rule.proofs.excess.digits_end.Tie as tie

@@ -1,7 +1,7 @@
 -- One arm for each of what may be expected. Assumes nothing.
 use mathlib.Core.Path.{refl}
 use Rattle.compile_rule.specs.declared.beginning.Expected.TheVariants.{Term, True, Not, Space, Mark, Ended, Joint, Or, And, Since, Until, Bracket, Lower, Upper}
-use Rattle.compile_rule.specs.Words.{limited}
+use Rattle.compile_rule.proofs.Words.{limited}
 use borrow.Author.Rules.{rules}
 use Rattle.compile_rule.proofs.excess.limit_at.Statement.{statement}
 use Rattle.compile_rule.proofs.excess.limit_at.Tie as tie

@@ -3,7 +3,7 @@ use Prim.Native.Nat.{ℕ}
 use mathlib.Core.Path.{refl, sym, ap, ◌∙◌}
 use mathlib.Core.Bool.{◌&&◌}
 use lib.Dec.{eqb, leb}
-use Rattle.compile_rule.specs.Choices.{taken, left}
+use Rattle.compile_rule.proofs.Choices.{taken, left}
 use Rattle.compile_rule.specs.Words.{term_limit}
 use borrow.Author.Rules.{rules}
 use Rattle.compile_rule.proofs.excess.of_term.Statement.{statement}

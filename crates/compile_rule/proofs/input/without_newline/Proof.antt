@@ -1,6 +1,7 @@
 -- By the length and the last two bytes. Assumes nothing.
 use native.Mathlib.Omega.{arith}
-use Rattle.compile_rule.specs.Line.{whole, empty, alone, ended, returned}
+use Rattle.compile_rule.specs.Line.{whole}
+use Rattle.compile_rule.proofs.Line.{empty, alone, ended, returned}
 use borrow.Author.Rules.{rules}
 use Rattle.compile_rule.proofs.input.without_newline.Statement.{statement}
 use Rattle.compile_rule.proofs.input.without_newline.Tie as tie

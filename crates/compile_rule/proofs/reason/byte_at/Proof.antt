@@ -1,6 +1,6 @@
 -- Past the end the default is read. Assumes nothing.
 use native.Mathlib.Omega.{arith}
-use Rattle.compile_rule.specs.Choices.{past}
+use Rattle.compile_rule.proofs.Choices.{past}
 use borrow.Author.Rules.{rules}
 use Rattle.compile_rule.proofs.reason.byte_at.Statement.{statement}
 use Rattle.compile_rule.proofs.reason.byte_at.Tie as tie

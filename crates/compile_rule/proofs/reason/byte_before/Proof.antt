@@ -1,6 +1,6 @@
 -- By the definition. Assumes nothing.
 use mathlib.Core.Path.{refl}
-use Rattle.compile_rule.specs.Choices.{below, not_below}
+use Rattle.compile_rule.proofs.Choices.{below, not_below}
 use Rattle.compile_rule.specs.Words.{byte_before}
 use borrow.Author.Rules.{rules}
 use Rattle.compile_rule.proofs.reason.byte_before.Statement.{statement}

@@ -1,6 +1,6 @@
 -- By the definition. Assumes nothing.
 use mathlib.Core.Path.{refl}
-use Rattle.compile_rule.specs.Choices.{below, not_below, equal, unequal}
+use Rattle.compile_rule.proofs.Choices.{below, not_below, equal, unequal}
 use Rattle.compile_rule.specs.Words.{ended_reason}
 use Rattle.compile_rule.proofs.reason.of_ended.Statement.{statement}
 use Rattle.compile_rule.proofs.reason.of_ended.Tie as tie

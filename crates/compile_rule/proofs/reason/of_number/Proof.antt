@@ -1,6 +1,7 @@
 -- By the definition. Assumes nothing.
 use mathlib.Core.Path.{refl, sym, ap, ◌∙◌}
-use Rattle.compile_rule.specs.Choices.{digit, taken, left}
+use Rattle.compile_rule.specs.Choices.{digit}
+use Rattle.compile_rule.proofs.Choices.{taken, left}
 use Rattle.compile_rule.specs.Words.{number_reason}
 use borrow.Author.Rules.{rules}
 use Rattle.compile_rule.proofs.reason.of_number.Statement.{statement}

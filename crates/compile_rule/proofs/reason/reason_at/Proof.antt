@@ -2,7 +2,8 @@
 use mathlib.Core.Path.{refl, ap, ◌∙◌}
 use Rattle.compile_rule.specs.declared.beginning.Expected.TheVariants.{Term, True, Not, Space, Mark, Ended, Joint, Or, And, Since, Until, Bracket, Lower, Upper}
 use Rattle.compile_rule.specs.declared.reason.Reason.{Reason}
-use Rattle.compile_rule.specs.Words.{number_reason, reasoned}
+use Rattle.compile_rule.specs.Words.{number_reason}
+use Rattle.compile_rule.proofs.Words.{reasoned}
 use borrow.Author.Rules.{rules}
 use Rattle.compile_rule.proofs.reason.reason_at.Statement.{statement}
 use Rattle.compile_rule.proofs.reason.reason_at.Tie as tie

@@ -1,6 +1,6 @@
 -- By the definition. Assumes nothing.
 use mathlib.Core.Path.{refl}
-use Rattle.compile_rule.specs.Choices.{below, not_below}
+use Rattle.compile_rule.proofs.Choices.{below, not_below}
 use Rattle.compile_rule.specs.Words.{shown}
 use Rattle.compile_rule.proofs.report.shown.Statement.{statement}
 use Rattle.compile_rule.proofs.report.shown.Tie as tie

@@ -1,0 +1,5 @@
+pub mod Bits
+pub mod Gathered
+pub mod Masks
+pub mod Packed
+pub mod Places

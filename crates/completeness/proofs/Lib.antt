@@ -1,0 +1,4 @@
+pub mod Pins
+pub mod Reports
+pub mod Stands
+pub mod Told

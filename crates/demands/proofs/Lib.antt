@@ -1,0 +1,17 @@
+pub mod Causes
+pub mod Invariant
+pub mod Keeping
+pub mod Looks
+pub mod Packets
+pub mod Past
+pub mod Plainly
+pub mod Points
+pub mod Proved
+pub mod Reported
+pub mod Runs
+pub mod Shifts
+pub mod Small
+pub mod Stops
+pub mod Swaps
+pub mod Walks
+pub mod Writers

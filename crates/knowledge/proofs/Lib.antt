@@ -1,0 +1,12 @@
+pub mod Conflict
+pub mod Counts
+pub mod Exact
+pub mod Laws
+pub mod Nearest
+pub mod Past
+pub mod Pins
+pub mod Runs
+pub mod Store
+pub mod Window
+pub mod Witness
+pub mod Worlds

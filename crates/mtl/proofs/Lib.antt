@@ -1,0 +1,11 @@
+pub mod Abbreviations
+pub mod Before
+pub mod Folds
+pub mod Knowing
+pub mod Pins
+pub mod Plainly
+pub mod Related
+pub mod Renumbering
+pub mod Replacing
+pub mod Textbook
+pub mod Unroll

@@ -1,0 +1,14 @@
+pub mod Causes
+pub mod CheckedFirst
+pub mod Examples
+pub mod Kinds
+pub mod Laws
+pub mod Ranges
+pub mod ReadPolicy
+pub mod Reads
+pub mod Refusals
+pub mod RoundTrip
+pub mod RuleLines
+pub mod Rules
+pub mod Stands
+pub mod Table

@@ -1,0 +1,4 @@
+pub mod Filled
+pub mod Grid
+pub mod Laws
+pub mod Parts

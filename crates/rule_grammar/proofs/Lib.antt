@@ -1,0 +1,16 @@
+pub mod Accepted
+pub mod Answers
+pub mod Brackets
+pub mod Decided
+pub mod Examples
+pub mod Intervals
+pub mod Means
+pub mod Numbers
+pub mod Numeral
+pub mod PlaceLaws
+pub mod Progress
+pub mod Reading
+pub mod Runs
+pub mod Spelling
+pub mod TestLaws
+pub mod Watched
