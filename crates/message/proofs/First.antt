@@ -20,7 +20,7 @@ use Rattle.message.specs.Format.{map_of, minute_at, number_at, named_at, values_
 use Rattle.message.specs.Encoded.{IsMessage}
 use Rattle.message.specs.Packet.{FirstCauses, Single, Packed, no_more, whole, cut}
 use Rattle.message.specs.Proper.{extra, early}
-use Rattle.message.proofs.Reads.{kept, refuses, takes, accepts}
+use Rattle.message.proofs.ReadLaws.{kept, refuses, takes, accepts}
 use Rattle.message.proofs.Laws.{refused_cut, decodes}
 
 pub length_some : (s : List ℕ) → 0 < length_of s
@@ -172,6 +172,7 @@ module _ (z : Sizes) (s : List ℕ) where
   seven_told at (there p (there g n)) = elim n [ ]
 
   eight_told : Refuses (first_checks z s) BadMessage → (length_of s ≤ length s) × (good_message z s ≡ false)
+  eight_told (there p (there _ x12)) = elim x12 [ ]
   eight_told (there p (here g)) = (leb-true _ _ p, g)
 
   passed_told : Passed (first_checks z s) → (length_of s ≤ length s) × (good_message z s ≡ true)

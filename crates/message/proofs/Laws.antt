@@ -15,7 +15,7 @@ use Rattle.message.specs.Format.{length_of, good_message, fields_of, message_che
 use Rattle.message.specs.Encoded.{IsEvent, is_observation, is_alive, IsMessage}
 use Rattle.message.specs.Fixes.{WellFormed, meaning_of, FitsEvent, Fits}
 use Rattle.message.specs.Proper.{Cut, early, extra, Causes}
-use Rattle.message.proofs.Reads.{refuses, takes, reads, accepts}
+use Rattle.message.proofs.ReadLaws.{refuses, takes, reads, accepts}
 
 -- ---- each answer and its cause
 
@@ -37,6 +37,7 @@ module _ (z : Sizes) (s : List ℕ) where
 
   -- 8 is after 7, and says that the bytes are no message
   broken : Refuses (message_checks z s) BadMessage → length s ≡ length_of s
+  broken (there p (there q (there _ x16))) = elim x16 [ ]
   broken (there p (there q (here g))) = sym (eqb-true _ _ q)
 
   refused_bad : length s ≡ length_of s → (IsMessage z s → ⊥) → answer_of z s ≡ Refused BadMessage

@@ -1,6 +1,6 @@
 pub mod Examples
 pub mod First
 pub mod Laws
-pub mod Reads
+pub mod ReadLaws
 pub mod Refusals
 pub mod RoundTrip

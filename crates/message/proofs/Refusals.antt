@@ -119,6 +119,7 @@ module _ (s : List ℕ) (n : MessageNumbers) (out : List ℕ) where
 
   short_told : Refuses later ShortBuffer → InRange z n × (length out < length (text_of n))
   unfolding writing_checks
+  short_told (there a (there _ x12)) = elim x12 [ ]
   short_told (there a (here b)) = ((numbers_law z n).0 a, leb-false _ _ b)
 
   no_other : (r : Refusal) → Refuses cs r → ((1 ≤ refusal_number r) × (refusal_number r ≤ 4)) ⊎ ((refusal_number r ≡ 8) ⊎ (refusal_number r ≡ 11))

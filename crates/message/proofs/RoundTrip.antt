@@ -25,7 +25,7 @@ use Rattle.message.specs.declared.MessageNumbers.{MessageNumbers}
 use Rattle.message.specs.Encoded.{IsEvent, is_observation, is_alive, is_alive_event, IsMessage}
 use Rattle.message.specs.Format.{widths, value_bytes}
 use Rattle.message.specs.Fixes.{Message, WellFormed, meaning_of}
-use Rattle.message.proofs.Reads.{only_values, accepts, reads}
+use Rattle.message.proofs.ReadLaws.{only_values, accepts, reads}
 use Rattle.message.specs.Text.{event_numbers, numbers_of, Observes, InRange, field_of, fields_part, values_part, text_of, encode_of}
 use Rattle.message.specs.Written.{SizesIn, RoundTrip, Encodes}
 use Rattle.message.proofs.Refusals.{causes}

@@ -127,6 +127,7 @@ module _ (s : List ℕ) where
 
   of_heading : (r : Refusal) → 5 ≤ length s → Refuses (heading_checks s) r → Cause s r
   unfolding heading_checks
+  of_heading r h (there a (there b (there c (there _ x20)))) = elim x20 [ ]
   of_heading r h (here a) = propositions_out h (not_between _ _ _ a)
   of_heading r h (there a (here b)) = components_out h (in_between _ _ _ a) (not_between _ _ _ b)
   of_heading r h (there a (there b (here c))) = minutes_out h (in_between _ _ _ a) (in_between _ _ _ b) (not_between _ _ _ c)
@@ -135,11 +136,13 @@ module _ (s : List ℕ) where
   module _ (h : Headed s) where
     of_line : (i : ℕ) (r : Refusal) → i < count_of s → Passed (lines_checks s i) → Refuses (line_checks s i) r → Cause s r
     unfolding line_checks
+    of_line i r l p (there e (there _ x12)) = elim x12 [ ]
     of_line i r l p (here c) = line_cut i h l (all_fine i p) (leb-false _ _ c)
     of_line i r l p (there e (here g)) = line_bad i h l (all_fine i p) (leb-true _ _ e) (denies _ (line_test i) g)
 
     of_lines : (n : ℕ) (r : Refusal) → n ≤ count_of s → Refuses (lines_checks s n) r → Cause s r
     unfolding lines_checks
+    of_lines zero r l q = elim q [ ]
     of_lines (suc n) r l q =
         ⊎_elim (of_lines n r (omega arith)) (λ (p : Passed (lines_checks s n) × Refuses (line_checks s n) r). of_line n r (omega arith) p.0 p.1)
         (refused_where (lines_checks s n) (line_checks s n) r q)
@@ -151,6 +154,7 @@ module _ (s : List ℕ) where
 
     of_closing : (r : Refusal) → Passed lines → Refuses closing r → Cause s r
     unfolding closing_checks
+    of_closing r p (there e (there _ x12)) = elim x12 [ ]
     of_closing r p (here e) =
         let f = all_fine (count_of s) p in
         bytes_follow h f (omega (arith, inside (count_of s) h.heading.lines_in.low f, eqb-false (offset s (count_of s)) (length s) e))

@@ -14,9 +14,9 @@ use Rattle.refusal.specs.declared.Answer.TheVariants.{Accepted, Refused}
 use Rattle.policy.specs.declared.Decoded.{Decoded}
 use Rattle.policy.specs.Format.{line_length, count_of, offset, with_answer, answer_of, policy_of, decode_of}
 use Rattle.policy.specs.Encoded.{IsPolicy}
-use Rattle.policy.proofs.Kinds.{earlier_operands, its_proposition, its_interval}
+use Rattle.policy.proofs.KindLaws.{earlier_operands, its_proposition, its_interval}
 use Rattle.policy.specs.Proper.{Proper, formula_at}
-use Rattle.policy.proofs.Reads.{accepts, reads}
+use Rattle.policy.proofs.ReadLaws.{accepts, reads}
 use Rattle.policy.proofs.Table.{table_length, past_lines, rules_counted}
 pub use Rattle.policy.proofs.Causes.{causes}
 

@@ -1,11 +1,11 @@
 pub mod Causes
 pub mod CheckedFirst
 pub mod Examples
-pub mod Kinds
+pub mod KindLaws
 pub mod Laws
 pub mod Ranges
 pub mod ReadPolicy
-pub mod Reads
+pub mod ReadLaws
 pub mod Refusals
 pub mod RoundTrip
 pub mod RuleLines

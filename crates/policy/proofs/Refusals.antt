@@ -21,7 +21,7 @@ use Rattle.policy.specs.declared.PolicyNumbers.{PolicyNumbers}
 use Rattle.policy.specs.Encoded.{IsLine}
 use Rattle.policy.specs.Format.{kinds, kind_of, operands_good, within, meaning}
 use Rattle.policy.specs.Kinds.{zeros}
-use Rattle.policy.proofs.Kinds.{is_a_line, keeps}
+use Rattle.policy.proofs.KindLaws.{is_a_line, keeps}
 use Rattle.policy.proofs.Ranges.{fails, denies, in_between, between_in, not_between, outside}
 use Rattle.policy.specs.Text.{line_in, rules_among, HeadingIn, LineIn, EachLineIn, RulesAmong, InRange, text_of, heading_good, line_good, lines_good, encode_checks, encode_of}
 use Rattle.policy.specs.Written.{EncodeCauses}
@@ -134,6 +134,7 @@ module _ (p : PolicyNumbers) where
 
     short_told : Refuses cs ShortBuffer → InRange p × (length out < length (text_of p))
     unfolding encode_checks
+    short_told (there a (there b (there c (there _ x20)))) = elim x20 [ ]
     short_told (there a (there b (there c (here d)))) = (in_range a b c, leb-false _ _ d)
 
     no_other : (r : Refusal) → Refuses cs r → ((2 ≤ refusal_number r) × (refusal_number r ≤ 4)) ⊎ (refusal_number r ≡ 11)

@@ -17,8 +17,8 @@ use Rattle.policy.specs.declared.LineNumbers.{LineNumbers}
 use Rattle.policy.specs.declared.PolicyNumbers.{PolicyNumbers}
 use Rattle.policy.specs.Encoded.{IsLine, is_true, is_proposition, is_not, is_or, is_since, is_until, is_and, is_implies, is_once, is_historically, is_eventually, is_always, Line, widths, LineAt, rules_in, IsPolicy, RulesIn}
 use Rattle.policy.specs.Format.{count_of, meaning, no_line, answer_of, policy_of}
-use Rattle.policy.proofs.Kinds.{keeps}
-use Rattle.policy.proofs.Reads.{accepts, reads}
+use Rattle.policy.proofs.KindLaws.{keeps}
+use Rattle.policy.proofs.ReadLaws.{accepts, reads}
 use Rattle.policy.proofs.Stands.{five}
 use Rattle.policy.specs.Text.{numbered, line_in, rules_among, formula_numbers, line_numbers, numbers_of, LineIn, InRange, field_of, line_text, lines_text, heading_text, text_of, encode_of}
 use Rattle.policy.specs.Written.{SameNumbers, RoundTrip}

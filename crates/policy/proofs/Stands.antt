@@ -14,7 +14,7 @@ use Rattle.policy.specs.declared.Kind.{Kind}
 use Rattle.policy.specs.Encoded.{Line, widths, numbers, LineAt}
 use Rattle.policy.specs.Format.{fields_at, kinds, kind_of, allowed, keeps_kind, good_line, formula_of}
 use Rattle.policy.specs.Kinds.{zeros, Keeps}
-use Rattle.policy.proofs.Kinds.{is_a_line, keeps}
+use Rattle.policy.proofs.KindLaws.{is_a_line, keeps}
 
 -- a bit that doesn't stand is a number that is 0
 absent : (b : Bool) (n : ℕ) → (b ≡ true) ↔ (n ≢ 0) → not b ≡ eqb n 0

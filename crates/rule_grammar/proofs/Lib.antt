@@ -1,6 +1,6 @@
 pub mod Accepted
 pub mod Answers
-pub mod Brackets
+pub mod BracketLaws
 pub mod Decided
 pub mod Examples
 pub mod Intervals

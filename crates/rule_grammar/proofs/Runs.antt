@@ -6,7 +6,7 @@ use Rattle.rule_grammar.specs.Automaton.{Wanted, more, Next, stuck, on, step, ea
 use Rattle.rule_grammar.specs.Decided.{rule}
 use Rattle.rule_grammar.specs.Places.{count}
 use Rattle.rule_grammar.specs.Brackets.{closers, wants_term}
-use Rattle.rule_grammar.proofs.Brackets.{open_brackets, would_start}
+use Rattle.rule_grammar.proofs.BracketLaws.{open_brackets, would_start}
 use Rattle.rule_grammar.specs.Runs.{Like, Reached, ended, exactly, run}
 
 differ : (l : List Wanted) → stuck ≡ on l → ⊥
