@@ -4,7 +4,7 @@
 usage: python3 tools/spell_names.py [--map FILE]      at the top of the repository, once, after port.py
 
 A name counts as own if a file of crates/*/specs or crates/*/proofs declares it: a definition, a lemma, a record, a field, a
-constructor, or what stands behind `where` or `let`. It is spelled anew in specs/, proofs/, src/ (strings left out) and must-fail/,
+constructor, what stands behind `where` or `let`, or another name in a `use` line. It is spelled anew in specs/, proofs/, src/ (strings left out) and must-fail/,
 but not in a file that imports the same name from the kit. Labels of goals (`.. : tie.Need..`) and the names that Rattle gives to
 proofs stay. Where two names of one file would fall together, the map of the run says so and nothing is written.
 """
@@ -16,6 +16,7 @@ import sys
 
 DECLARED = re.compile(r"^\s*(?:(?:pattern|unfoldable|abbrev|pub|axiom) )*(?:(data|record) )?([^\s:(){}.;,\"«»@]+)(?:(?: *\{[^}]*\}| *\([^)]*\))*) :( .*)?$")
 LET = re.compile(r"\blet ([^\s:(){}.;,=]+)")
+ALIAS = re.compile(r" as ([^\s,;{}]+)")
 TOKEN = re.compile(r"[^\s(){}\[\];,.@\"«»`|]+")
 USE = re.compile(r"^\s*(?:ghost )?(?:pub )?use ([^\s;{]+?)\.\{([^}]*)\}", re.M)
 STRING = re.compile(r'b?"(?:[^"\\]|\\.)*"')
@@ -57,9 +58,10 @@ def own_names(root):
             m = DECLARED.match(line)
             if m and m[2] not in skip:
                 own.add(m[2])
-            for name in LET.findall(line):
-                own.add(name)
-    return {n for n in own if "-" in n.strip("-") and not n.startswith("+") and "◌" not in n}
+            own.update(LET.findall(line))
+            if line.lstrip().startswith(("use ", "pub use ")):
+                own.update(ALIAS.findall(line))
+    return {n for n in own if "-" in n.strip("-") and not n.startswith(("+", "#")) and "◌" not in n and n not in TYPES.values()}
 
 
 def from_kit(text, crates):
@@ -69,7 +71,8 @@ def from_kit(text, crates):
         if steps[0] == "Rattle" and len(steps) > 1 and steps[1] in crates:
             continue
         for item in items.split(","):
-            names.add(item.strip().split(" as ")[-1].strip())
+            if " as " not in item:
+                names.add(item.strip())
     return names
 
 

@@ -9,14 +9,14 @@ use Rattle.refusal.specs.declared.Refusal.TheVariants.{TruncatedPolicy, BadHeadi
 use Rattle.refusal.specs.declared.Answer.{Answer as Checked}
 use Rattle.refusal.specs.declared.Answer.TheVariants as C
 use Rattle.refusal.specs.Numbers.{refusal_number, refusal_place, refusal_of}
-use Rattle.refusal.specs.Checks.{Check, check, first_failed, Passed as All-passed, none, pass, Refuses, here, there}
+use Rattle.refusal.specs.Checks.{Check, check, first_failed, Passed as AllPassed, none, pass, Refuses, here, there}
 use Rattle.refusal.proofs.Laws.{refusal_law, passing_law, refused_before, refused_after, passed_both, passed_parts, refused_where, number_law, not_accepted}
-use Rattle.policy.specs.Format.{policy_checks, answer_of as policy-answer, policy_of}
-use Rattle.policy.specs.Proper.{Causes as Policy-reader-causes}
+use Rattle.policy.specs.Format.{policy_checks, answer_of as policy_answer, policy_of}
+use Rattle.policy.specs.Proper.{Causes as PolicyReaderCauses}
 use Rattle.policy.proofs.Causes.{policy_refuses}
-use Rattle.message.specs.Format.{message_checks, answer_of as message-answer}
+use Rattle.message.specs.Format.{message_checks, answer_of as message_answer}
 use Rattle.message.specs.Fixes.{Fits, WellFormed, meaning_of}
-use Rattle.message.specs.Proper.{Causes as Message-reader-causes}
+use Rattle.message.specs.Proper.{Causes as MessageReaderCauses}
 use Rattle.knowledge.specs.Knowledge.{Sound, sound, admits}
 use Rattle.knowledge.specs.Laws.{Limits}
 use Rattle.knowledge.proofs.Laws.{sound_law}
@@ -59,10 +59,10 @@ one_fails b r = (first, here)
 pub one_number : (b : Bool) (r q : Refusal) → Refuses (check b r ∷ []) q → refusal_number q ≡ refusal_number r
 one_number b r q (here e) = refl
 
-pub one_passes : (b : Bool) (r : Refusal) → All-passed (check b r ∷ []) ↔ (b ≡ true)
+pub one_passes : (b : Bool) (r : Refusal) → AllPassed (check b r ∷ []) ↔ (b ≡ true)
 one_passes b r = (last, λ e. pass e none)
   where
-    last : All-passed (check b r ∷ []) → b ≡ true
+    last : AllPassed (check b r ∷ []) → b ≡ true
     last (pass e none) = e
 
 -- a test that decides a claim fails where the claim does
@@ -93,14 +93,14 @@ slip_number s x b r (there p (there q (there u (here e)))) = omega arith
 
 -- ---- the policy's part
 
-module _ (s : List ℕ) (k : Policy-reader-causes s) where
-  pub passed_policy : All-passed (policy_checks s) ↔ PolicyPassed s
-  unfolding policy-answer
+module _ (s : List ℕ) (k : PolicyReaderCauses s) where
+  pub passed_policy : AllPassed (policy_checks s) ↔ PolicyPassed s
+  unfolding policy_answer
   passed_policy = via (back (passing_law (policy_checks s))) k.accepted
 
   -- in a list that refuses with 1 to 4 just where the policy's checks do
   pub policy_part : (cs : List Check) → ((r : Refusal) → refusal_number r ≤ 4 → Refuses cs r ↔ Refuses (policy_checks s) r) → PolicyCauses s (first_failed cs)
-  unfolding policy-answer
+  unfolding policy_answer
   policy_part cs f = record {
     one = λ at. via (number_law cs 1 at) (at_place (via (f (TruncatedPolicy at) (omega arith)) (via (back (refusal_law (policy_checks s) (TruncatedPolicy at))) (k.one at))));
     two = λ at. via (number_law cs 2 at) (at_place (via (f (BadHeading at) (omega arith)) (via (back (refusal_law (policy_checks s) (BadHeading at))) (k.two at))));
@@ -116,7 +116,7 @@ module _ (s : List ℕ) (k : Policy-reader-causes s) where
     abbrev fits : Bool
     fits = sized (policy_of s) x
 
-    passed_sizes : All-passed (opening_checks s x) ↔ (PolicyPassed s × Sized (policy_of s) x)
+    passed_sizes : AllPassed (opening_checks s x) ↔ (PolicyPassed s × Sized (policy_of s) x)
     passed_sizes =
         via (passed_parts (policy_checks s) (check fits BufferSize ∷ []), λ q. passed_both (policy_checks s) (check fits BufferSize ∷ []) q.0 q.1)
         (both_ways passed_policy (via (one_passes fits BufferSize) (sized_law (policy_of s) x)))
@@ -125,7 +125,7 @@ module _ (s : List ℕ) (k : Policy-reader-causes s) where
     sizes_number : (r : Refusal) → Refuses (opening_checks s x) r → (1 ≤ refusal_number r) × (refusal_number r ≤ 5)
     sizes_number r q = go (refused_where (policy_checks s) (check fits BufferSize ∷ []) r q)
       where
-        go : Refuses (policy_checks s) r ⊎ (All-passed (policy_checks s) × Refuses (check fits BufferSize ∷ []) r) → (1 ≤ refusal_number r) × (refusal_number r ≤ 5)
+        go : Refuses (policy_checks s) r ⊎ (AllPassed (policy_checks s) × Refuses (check fits BufferSize ∷ []) r) → (1 ≤ refusal_number r) × (refusal_number r ≤ 5)
         go (inl h) = omega (arith, policy_refuses s r h)
         go (inr h) = omega (arith, one_number fits BufferSize r h.1)
 
@@ -174,7 +174,7 @@ module _ (s : List ℕ) (k : Policy-reader-causes s) where
       pub sized : Sized (policy_of s) x
       pub origin : x.origin ≡ origin_of s
 
-    pub passed_origin : All-passed (origin_checks s x) ↔ LetPast
+    pub passed_origin : AllPassed (origin_checks s x) ↔ LetPast
     passed_origin =
         via (passed_parts (opening_checks s x) (check under OtherPolicy ∷ []), λ q. passed_both (opening_checks s x) (check under OtherPolicy ∷ []) q.0 q.1)
         (via (both_ways passed_sizes (via (one_passes under OtherPolicy) (under_law s x.origin)))
@@ -183,7 +183,7 @@ module _ (s : List ℕ) (k : Policy-reader-causes s) where
     pub origin_number : (r : Refusal) → Refuses (origin_checks s x) r → ((1 ≤ refusal_number r) × (refusal_number r ≤ 5)) ⊎ (refusal_number r ≡ 12)
     origin_number r q = go (refused_where (opening_checks s x) (check under OtherPolicy ∷ []) r q)
       where
-        go : Refuses (opening_checks s x) r ⊎ (All-passed (opening_checks s x) × Refuses (check under OtherPolicy ∷ []) r) → ((1 ≤ refusal_number r) × (refusal_number r ≤ 5)) ⊎ (refusal_number r ≡ 12)
+        go : Refuses (opening_checks s x) r ⊎ (AllPassed (opening_checks s x) × Refuses (check under OtherPolicy ∷ []) r) → ((1 ≤ refusal_number r) × (refusal_number r ≤ 5)) ⊎ (refusal_number r ≡ 12)
         go (inl h) = inl (sizes_number r h)
         go (inr h) = inr (one_number under OtherPolicy r h.1)
 
@@ -193,7 +193,7 @@ module _ (s : List ℕ) (k : Policy-reader-causes s) where
         (both_ways passed_sizes (via (one_fails under OtherPolicy) (decided (under_law s x.origin))))
 
     -- and then 6
-    pub passed_record : All-passed firsts ↔ Passed s x
+    pub passed_record : AllPassed firsts ↔ Passed s x
     passed_record =
         via (passed_parts (origin_checks s x) (check clean CorruptKnowledge ∷ []), λ q. passed_both (origin_checks s x) (check clean CorruptKnowledge ∷ []) q.0 q.1)
         (via (both_ways passed_origin (via (one_passes clean CorruptKnowledge) (sound_law (sizes_of s) x.known)))
@@ -206,7 +206,7 @@ module _ (s : List ℕ) (k : Policy-reader-causes s) where
         early (inl h) = inl (omega (arith, h))
         early (inr h) = inr h
 
-        go : Refuses (origin_checks s x) r ⊎ (All-passed (origin_checks s x) × Refuses (check clean CorruptKnowledge ∷ []) r) → ((1 ≤ refusal_number r) × (refusal_number r ≤ 6)) ⊎ (refusal_number r ≡ 12)
+        go : Refuses (origin_checks s x) r ⊎ (AllPassed (origin_checks s x) × Refuses (check clean CorruptKnowledge ∷ []) r) → ((1 ≤ refusal_number r) × (refusal_number r ≤ 6)) ⊎ (refusal_number r ≡ 12)
         go (inl h) = early (origin_number r h)
         go (inr h) = inl (omega (arith, one_number clean CorruptKnowledge r h.1))
 
@@ -230,8 +230,8 @@ module _ (s : List ℕ) (k : Policy-reader-causes s) where
 
     -- ---- a take
 
-    module _ (b : List ℕ) (km : Message-reader-causes (sizes_of s) b) (limits : policy-answer s ≡ C.Accepted → Limits (sizes_of s))
-        (ranged : policy-answer s ≡ C.Accepted → WellFormed (sizes_of s) b → Fits (sizes_of s) (meaning_of b)) where
+    module _ (b : List ℕ) (km : MessageReaderCauses (sizes_of s) b) (limits : policy_answer s ≡ C.Accepted → Limits (sizes_of s))
+        (ranged : policy_answer s ≡ C.Accepted → WellFormed (sizes_of s) b → Fits (sizes_of s) (meaning_of b)) where
       abbrev free : Bool
       free = admits (sizes_of s) x.known (meaning_of b)
 
@@ -258,14 +258,14 @@ module _ (s : List ℕ) (k : Policy-reader-causes s) where
           not_there (inr h) = omega (arith, h, n)
 
       -- the message's own checks
-      in_message : (r : Refusal) → refusal_number r ≤ 8 → Refuses slip r ↔ (message-answer (sizes_of s) b ≡ C.Refused r)
-      unfolding message-answer
+      in_message : (r : Refusal) → refusal_number r ≤ 8 → Refuses slip r ↔ (message_answer (sizes_of s) b ≡ C.Refused r)
+      unfolding message_answer
       in_message r l =
           via (refused_before (message_checks (sizes_of s) b) (check free Conflict ∷ []) r (λ q. omega (arith, one_number free Conflict r q)))
           (back (refusal_law (message_checks (sizes_of s) b) r))
 
-      well_formed : All-passed (message_checks (sizes_of s) b) ↔ WellFormed (sizes_of s) b
-      unfolding message-answer
+      well_formed : AllPassed (message_checks (sizes_of s) b) ↔ WellFormed (sizes_of s) b
+      unfolding message_answer
       well_formed = back (passing_law (message_checks (sizes_of s) b))
 
       -- 9 decides whether some trace agrees
@@ -292,20 +292,20 @@ module _ (s : List ℕ) (k : Policy-reader-causes s) where
       taken_law C.Accepted = (λ u. refl, λ e. tt)
       taken_law (C.Refused r) = (λ u. absurd u, λ e. absurd (not_accepted r e))
 
-      passed_all : All-passed (take_checks s x b) ↔ (Passed s x × WellFormed (sizes_of s) b × SomeTrace (sizes_of s) x.known (meaning_of b))
+      passed_all : AllPassed (take_checks s x b) ↔ (Passed s x × WellFormed (sizes_of s) b × SomeTrace (sizes_of s) x.known (meaning_of b))
       passed_all = (there_is, back_to)
         where
-          law : All-passed (take_checks s x b) ↔ (Passed s x × (WellFormed (sizes_of s) b × (free ≡ true)))
+          law : AllPassed (take_checks s x b) ↔ (Passed s x × (WellFormed (sizes_of s) b × (free ≡ true)))
           law =
               via (passed_parts firsts slip, λ q. passed_both firsts slip q.0 q.1)
               (both_ways passed_record
               (via (passed_parts (message_checks (sizes_of s) b) (check free Conflict ∷ []), λ q. passed_both (message_checks (sizes_of s) b) (check free Conflict ∷ []) q.0 q.1)
               (both_ways well_formed (one_passes free Conflict))))
 
-          there_is : All-passed (take_checks s x b) → Passed s x × WellFormed (sizes_of s) b × SomeTrace (sizes_of s) x.known (meaning_of b)
+          there_is : AllPassed (take_checks s x b) → Passed s x × WellFormed (sizes_of s) b × SomeTrace (sizes_of s) x.known (meaning_of b)
           there_is q = let r = law.0 q in (r.0, r.1.0, (agreed r.0 r.1.0).0 r.1.1)
 
-          back_to : Passed s x × WellFormed (sizes_of s) b × SomeTrace (sizes_of s) x.known (meaning_of b) → All-passed (take_checks s x b)
+          back_to : Passed s x × WellFormed (sizes_of s) b × SomeTrace (sizes_of s) x.known (meaning_of b) → AllPassed (take_checks s x b)
           back_to q = law.1 (q.0, (q.1, (agreed q.0 q.1).1 q.2))
 
       pub take_causes : TakeCauses s x b (receive s x b)
@@ -333,7 +333,7 @@ module _ (s : List ℕ) (k : Policy-reader-causes s) where
           wider (inl h) = inl (omega (arith, h))
           wider (inr h) = inr h
 
-          either : (r : Refusal) → Refuses firsts r ⊎ (All-passed firsts × Refuses slip r) → ((1 ≤ refusal_number r) × (refusal_number r ≤ 9)) ⊎ (refusal_number r ≡ 12)
+          either : (r : Refusal) → Refuses firsts r ⊎ (AllPassed firsts × Refuses slip r) → ((1 ≤ refusal_number r) × (refusal_number r ≤ 9)) ⊎ (refusal_number r ≡ 12)
           either r (inl h) = wider (record_number r h)
           either r (inr h) = inl (omega (arith, slip_number s x b r h.1))
 

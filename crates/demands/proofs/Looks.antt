@@ -7,11 +7,11 @@ use Rattle.refusal.specs.declared.Refusal.TheVariants.{BufferSize, OutOfRange}
 use Rattle.refusal.specs.declared.Answer.{Answer as Checked}
 use Rattle.refusal.specs.declared.Answer.TheVariants as C
 use Rattle.refusal.specs.Numbers.{refusal_number, refusal_place, refusal_of}
-use Rattle.refusal.specs.Checks.{Check, check, first_failed, Passed as All-passed, Refuses, here, there}
+use Rattle.refusal.specs.Checks.{Check, check, first_failed, Passed as AllPassed, Refuses, here, there}
 use Rattle.refusal.proofs.Laws.{passing_law, refused_before, refused_after, refused_where, passed_both, passed_parts, number_law, not_accepted}
 use Rattle.logic.proofs.Bools.{both, pair}
 use Rattle.policy.specs.Format.{policy_checks, policy_of}
-use Rattle.policy.specs.Proper.{Causes as Policy-reader-causes}
+use Rattle.policy.specs.Proper.{Causes as PolicyReaderCauses}
 use Rattle.policy.proofs.Causes.{policy_refuses}
 use Rattle.monitor.specs.declared.Verdict.{Verdict}
 use Rattle.monitor.specs.declared.Verdict.TheVariants.{Unknown, Satisfied, Violated}
@@ -34,7 +34,7 @@ shows : (a : Checked) (v w : Verdict) → (show_unless a v ≡ L.Shows w) ↔ ((
 shows C.Accepted v w = (λ e. (refl, same_verdict v w e), λ q. ap L.Shows q.1)
 shows (C.Refused r) v w = (λ e. absurd (not_accepted r (ap look_reply e)), λ q. absurd (not_accepted r q.0))
 
-module _ (s verdicts : List ℕ) (rule minute : ℕ) (k : Policy-reader-causes s) where
+module _ (s verdicts : List ℕ) (rule minute : ℕ) (k : PolicyReaderCauses s) where
   abbrev fits : Bool
   fits = eqb (length verdicts) ((policy_of s).rules * (sizes_of s).minutes)
 
@@ -61,7 +61,7 @@ module _ (s verdicts : List ℕ) (rule minute : ℕ) (k : Policy-reader-causes s
   sheet_number r (here e) = inl refl
   sheet_number r (there p (here e)) = inr refl
 
-  on_sheet : All-passed cs ↔ OnSheet s verdicts rule minute
+  on_sheet : AllPassed cs ↔ OnSheet s verdicts rule minute
   on_sheet =
       via (passed_parts (policy_checks s) sheet, λ q. passed_both (policy_checks s) sheet q.0 q.1)
       (via (both_ways (passed_policy s k) (via (passed_parts (check fits BufferSize ∷ []) (check inside OutOfRange ∷ []), λ q. passed_both (check fits BufferSize ∷ []) (check inside OutOfRange ∷ []) q.0 q.1)
@@ -106,7 +106,7 @@ module _ (s verdicts : List ℕ) (rule minute : ℕ) (k : Policy-reader-causes s
         blank = via (shown Unknown (code_of_blank (code s verdicts rule minute))) (λ q. (q.0, q.1.0, q.1.1), λ q. (q.0, (q.1, q.2)));
       }
     where
-      either : (r : Refusal) → Refuses (policy_checks s) r ⊎ (All-passed (policy_checks s) × Refuses sheet r) → ((1 ≤ refusal_number r) × (refusal_number r ≤ 5)) ⊎ (refusal_number r ≡ 10)
+      either : (r : Refusal) → Refuses (policy_checks s) r ⊎ (AllPassed (policy_checks s) × Refuses sheet r) → ((1 ≤ refusal_number r) × (refusal_number r ≤ 5)) ⊎ (refusal_number r ≡ 10)
       either r (inl h) = inl (omega (arith, policy_refuses s r h))
       either r (inr h) = go (sheet_number r h.1)
         where

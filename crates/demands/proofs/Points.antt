@@ -4,7 +4,7 @@ use Rattle.std.specs.Prelude.{ℕ, ◌<◌, ◌≡◌, Bool, ◌↔◌}
 use Rattle.std.proofs.Common.{sym, subst}
 use mathlib.Core.List.{List, Memᴰ}
 use Rattle.policy.specs.Format.{policy_of}
-use Rattle.policy.proofs.Laws.{accepted as policy-proper}
+use Rattle.policy.proofs.Laws.{accepted as policy_proper}
 use Rattle.knowledge.specs.Trace.{Trace, AdmitsAll, time_point}
 use Rattle.knowledge.specs.Exact.{InAll, ExactPoints}
 use Rattle.knowledge.proofs.Exact.{exact_points}
@@ -22,7 +22,7 @@ module _ (s : List ℕ) (x : State) (d : (open_state s x).answer ≡ Done) (cs :
   up =
       let o = opens s x d in
       subst (λ (y : State). KeptUp (policy_of s) (origin_of s) (run_calls s y cs) (λ m. Memᴰ m (accepted_from s y cs))) (sym o.state)
-      (start s o.card (policy-proper s o.card) (ranged s o.card) cs)
+      (start s o.card (policy_proper s o.card) (ranged s o.card) cs)
 
   -- the shifts that fit the record are those that could have sent the slips accepted
   in_all : (t : ℕ) (b : Bool)

@@ -10,12 +10,12 @@ use Rattle.refusal.specs.declared.Refusal.TheVariants.{Conflict}
 use Rattle.refusal.specs.declared.Answer.{Answer as Checked}
 use Rattle.refusal.specs.declared.Answer.TheVariants as C
 use Rattle.refusal.proofs.Table.{table}
-use Rattle.refusal.specs.Checks.{check, first_failed, Passed as All-passed, none as no_more, pass}
+use Rattle.refusal.specs.Checks.{check, first_failed, Passed as AllPassed, none as no_more, pass}
 use Rattle.refusal.proofs.Laws.{passing_law, passed_parts, not_accepted, same_refusal, the_refusal}
 use Rattle.policy.specs.declared.Policy.{Policy}
-use Rattle.policy.specs.Format.{policy_checks, answer_of as policy-answer, policy_of}
+use Rattle.policy.specs.Format.{policy_checks, answer_of as policy_answer, policy_of}
 use Rattle.policy.specs.Proper.{Proper}
-use Rattle.policy.proofs.Laws.{accepted as policy-proper, short}
+use Rattle.policy.proofs.Laws.{accepted as policy_proper, short}
 use Rattle.policy.proofs.Causes.{causes as policy_causes}
 use Rattle.message.specs.Format.{message_checks}
 use Rattle.message.specs.Fixes.{Message, FixesNumber, FixesFact, Fits, WellFormed, meaning_of}
@@ -44,11 +44,11 @@ use Rattle.demands.proofs.Looks.{look_causes}
 
 -- ---- what an accepted card gives
 
-limits : (s : List ℕ) → policy-answer s ≡ C.Accepted → Limits (sizes_of s)
-limits s e = let p = policy-proper s e in record { propositions_most = p.propositions.high; minutes_most = p.minutes.high }
+limits : (s : List ℕ) → policy_answer s ≡ C.Accepted → Limits (sizes_of s)
+limits s e = let p = policy_proper s e in record { propositions_most = p.propositions.high; minutes_most = p.minutes.high }
 
-pub ranged : (s : List ℕ) → policy-answer s ≡ C.Accepted → (b : List ℕ) → WellFormed (sizes_of s) b → Fits (sizes_of s) (meaning_of b)
-ranged s e b w = fits (sizes_of s) (policy-proper s e).propositions.high b w
+pub ranged : (s : List ℕ) → policy_answer s ≡ C.Accepted → (b : List ℕ) → WellFormed (sizes_of s) b → Fits (sizes_of s) (meaning_of b)
+ranged s e b w = fits (sizes_of s) (policy_proper s e).propositions.high b w
 
 -- ---- demand 1
 
@@ -64,11 +64,11 @@ demand_1 = record {
 
 -- an opening that answers done leaves the opened state, under an accepted card
 pub record OpenedState (s : List ℕ) (o : Outcome) : Type 0 where
-  pub card : policy-answer s ≡ C.Accepted
+  pub card : policy_answer s ≡ C.Accepted
   pub state : o.state ≡ opened (policy_of s) (origin_of s)
 
 pub opens : (s : List ℕ) (x : State) → (open_state s x).answer ≡ Done → OpenedState s (open_state s x)
-unfolding open_state policy-answer
+unfolding open_state policy_answer
 opens s x d = go (first_failed (opening_checks s x)) refl d
   where
     go : (a : Checked) → first_failed (opening_checks s x) ≡ a → (unless a x (record { answer = Done; state = opened (policy_of s) (origin_of s) })).answer ≡ Done
@@ -111,10 +111,10 @@ module _ (s : List ℕ) (x : State) (b : List ℕ) where
   unfolding receive
   left = go (first_failed (take_checks s x b)) refl
     where
-      tested : All-passed (slip_checks (policy_of s) x b) → admits (sizes_of s) x.known (meaning_of b) ≡ true
+      tested : AllPassed (slip_checks (policy_of s) x b) → admits (sizes_of s) x.known (meaning_of b) ≡ true
       tested q = last (passed_parts (message_checks (sizes_of s) b) _ q).1
         where
-          last : All-passed (check (admits (sizes_of s) x.known (meaning_of b)) Conflict ∷ []) → admits (sizes_of s) x.known (meaning_of b) ≡ true
+          last : AllPassed (check (admits (sizes_of s) x.known (meaning_of b)) Conflict ∷ []) → admits (sizes_of s) x.known (meaning_of b) ≡ true
           last (pass e no_more) = e
 
       go : (a : Checked) → first_failed (take_checks s x b) ≡ a → Taken (unless a x (settled (policy_of s) x (meaning_of b))).answer → Left (unless a x (settled (policy_of s) x (meaning_of b)))
@@ -194,9 +194,9 @@ after_opened s x e cs = ap (λ (y : State). run_calls s y cs) e
 accepted_opened : (s : List ℕ) (x : State) → (open_state s x).state ≡ opened (policy_of s) (origin_of s) → (cs : List Call) → accepted s x cs ≡ accepted_from s (opened (policy_of s) (origin_of s)) cs
 accepted_opened s x e cs = ap (λ (y : State). accepted_from s y cs) e
 
-module _ (s : List ℕ) (card : policy-answer s ≡ C.Accepted) where
+module _ (s : List ℕ) (card : policy_answer s ≡ C.Accepted) where
   abbrev proper : Proper (policy_of s)
-  proper = policy-proper s card
+  proper = policy_proper s card
 
   abbrev fitting : (b : List ℕ) → WellFormed (sizes_of s) b → Fits (sizes_of s) (meaning_of b)
   fitting = ranged s card

@@ -7,9 +7,9 @@ use Rattle.bits.specs.Digits.{digit, below, expanded}
 use Rattle.bits.specs.Bits.{bit}
 use Rattle.bits.proofs.Bits.{bit_of_zero}
 use Rattle.mtl.specs.Reading.{reading}
-use Rattle.policy.specs.Format.{line_length, fields_at, keeps_kind, good_line, meaning, formula_of, subformula_of, subformula_at, heading_checks, offset, line_checks, lines_checks, lines_up_to, subformulas_of, rule_lines, rules_up_to, closing_checks, policy_checks, answer_of as policy-answer, policy_of}
+use Rattle.policy.specs.Format.{line_length, fields_at, keeps_kind, good_line, meaning, formula_of, subformula_of, subformula_at, heading_checks, offset, line_checks, lines_checks, lines_up_to, subformulas_of, rule_lines, rules_up_to, closing_checks, policy_checks, answer_of as policy_answer, policy_of}
 use Rattle.message.specs.declared.Event.{Event}
-use Rattle.message.specs.Format.{component_of, minute_of, number_of, named_of, packed_of, length_of, fields_of, good_alive, good_observation, all_written, good_fields, answer_of as message-answer, event_in}
+use Rattle.message.specs.Format.{component_of, minute_of, number_of, named_of, packed_of, length_of, fields_of, good_alive, good_observation, all_written, good_fields, answer_of as message_answer, event_in}
 use Rattle.message.specs.Fixes.{FixesNumber, FixesFact, meaning_of}
 use Rattle.knowledge.specs.Trace.{tally, Admits}
 use Rattle.knowledge.specs.Knowledge.{follow, steady, level, full, word_sound, words_agree, noted, valued, number, is_point, is_none, sound, fresh, stored, free, admits}
@@ -106,7 +106,7 @@ module _ (n : ℕ) (inside : n < 4) where
   }
 
 pub reported_shifts : (y : State) → (open_state U y).answer ≡ Done → ReportedShifts y
-unfolding digit below expanded bit reading line_length fields_at keeps_kind good_line meaning formula_of subformula_of subformula_at heading_checks offset line_checks lines_checks lines_up_to subformulas_of rule_lines rules_up_to closing_checks policy_checks policy-answer policy_of component_of minute_of number_of named_of packed_of length_of fields_of good_alive good_observation all_written good_fields message-answer event_in meaning_of noted valued number is_point is_none sound fresh stored free admits valuation_of verdicts_of sizes_fit opened opened_under receive follow steady level full word_sound words_agree reach_deep reach
+unfolding digit below expanded bit reading line_length fields_at keeps_kind good_line meaning formula_of subformula_of subformula_at heading_checks offset line_checks lines_checks lines_up_to subformulas_of rule_lines rules_up_to closing_checks policy_checks policy_answer policy_of component_of minute_of number_of named_of packed_of length_of fields_of good_alive good_observation all_written good_fields message_answer event_in meaning_of noted valued number is_point is_none sound fresh stored free admits valuation_of verdicts_of sizes_fit opened opened_under receive follow steady level full word_sound words_agree reach_deep reach
 reported_shifts y d =
     let u : (open_state U y).state ≡ opened (policy_of U) (origin_of U) = (opens U y d).state in
     record {

@@ -7,12 +7,12 @@ use mathlib.Core.List.{List, [], ◌∷◌, ◌++◌, Memᴰ}
 use Rattle.refusal.specs.declared.Answer.{Answer as Checked}
 use Rattle.refusal.specs.declared.Answer.TheVariants as C
 use Rattle.refusal.specs.declared.Refusal.TheVariants.{Conflict}
-use Rattle.refusal.specs.Checks.{check, first_failed, Passed as All-passed, none, pass}
+use Rattle.refusal.specs.Checks.{check, first_failed, Passed as AllPassed, none, pass}
 use Rattle.refusal.proofs.Laws.{passing_law, passed_both, passed_parts, not_accepted}
-use Rattle.policy.specs.Format.{answer_of as policy-answer, policy_of}
+use Rattle.policy.specs.Format.{answer_of as policy_answer, policy_of}
 use Rattle.policy.specs.Proper.{Proper}
 use Rattle.policy.proofs.Laws.{short}
-use Rattle.message.specs.Format.{message_checks, answer_of as message-answer}
+use Rattle.message.specs.Format.{message_checks, answer_of as message_answer}
 use Rattle.message.specs.Fixes.{Message, Fits, WellFormed, meaning_of}
 use Rattle.knowledge.specs.Trace.{Trace, Admits, AdmitsAll}
 use Rattle.knowledge.specs.Knowledge.{Sound, sound, admits}
@@ -39,7 +39,7 @@ pub run_append : (s : List ℕ) (cs ds : List Call) (x : State) → run_calls s 
 run_append s [] ds x = refl
 run_append s (c ∷ cs) ds x = run_append s cs ds (step s x c).state
 
-module _ (s : List ℕ) (passed : policy-answer s ≡ C.Accepted) (proper : Proper (policy_of s))
+module _ (s : List ℕ) (passed : policy_answer s ≡ C.Accepted) (proper : Proper (policy_of s))
     (ranged : (b : List ℕ) → WellFormed (sizes_of s) b → Fits (sizes_of s) (meaning_of b)) where
   limits : Limits (sizes_of s)
   limits = record { propositions_most = proper.propositions.high; minutes_most = proper.minutes.high }
@@ -47,10 +47,10 @@ module _ (s : List ℕ) (passed : policy-answer s ≡ C.Accepted) (proper : Prop
   -- a message that passes its checks is well_formed, and nothing known contradicts it
   passed_slip : (x : State) (b : List ℕ) → (first_failed (slip_checks (policy_of s) x b) ≡ C.Accepted)
       ↔ (WellFormed (sizes_of s) b × (admits (sizes_of s) x.known (meaning_of b) ≡ true))
-  unfolding message-answer
+  unfolding message_answer
   passed_slip x b = (there, back)
     where
-      last : All-passed (check (admits (sizes_of s) x.known (meaning_of b)) Conflict ∷ []) → admits (sizes_of s) x.known (meaning_of b) ≡ true
+      last : AllPassed (check (admits (sizes_of s) x.known (meaning_of b)) Conflict ∷ []) → admits (sizes_of s) x.known (meaning_of b) ≡ true
       last (pass e none) = e
 
       there : first_failed (slip_checks (policy_of s) x b) ≡ C.Accepted → WellFormed (sizes_of s) b × (admits (sizes_of s) x.known (meaning_of b) ≡ true)

@@ -6,8 +6,8 @@ use mathlib.Core.List.{List, Memᴰ}
 use Rattle.kleene.specs.Truth.{Truth, unknown, true3, false3, code_of}
 use Rattle.refusal.specs.declared.Answer.TheVariants as C
 use Rattle.policy.specs.declared.Policy.{Policy}
-use Rattle.policy.specs.Format.{answer_of as policy-answer, policy_of}
-use Rattle.policy.proofs.Laws.{accepted as policy-proper}
+use Rattle.policy.specs.Format.{answer_of as policy_answer, policy_of}
+use Rattle.policy.proofs.Laws.{accepted as policy_proper}
 use Rattle.policy.proofs.Causes.{causes as policy_causes}
 use Rattle.message.specs.Fixes.{Message, WellFormed, meaning_of}
 use Rattle.knowledge.specs.Trace.{Trace, Admits}
@@ -17,7 +17,7 @@ use Rattle.knowledge.proofs.Store.{fact_law, fixed_place, fixed_fact}
 use Rattle.valuation.specs.Sheets.{value, verdict}
 use Rattle.reach.proofs.Laws.{unroll_reach}
 use Rattle.reach.specs.Reaches.{rule_reach}
-use Rattle.reach.proofs.Refusals.{causes as reach-causes}
+use Rattle.reach.proofs.Refusals.{causes as reach_causes}
 use Rattle.completeness.specs.Complete.{Complete, Every, Named, NoBlanks}
 use Rattle.completeness.proofs.Stands.{for_fewer, no_blanks}
 use Rattle.completeness.specs.Reports.{AllTold}
@@ -38,8 +38,8 @@ use Rattle.demands.proofs.Points.{up}
 
 -- ---- a record
 
-of_named : (s : List ℕ) → policy-answer s ≡ C.Accepted → (k : Knowledge) → Complete (sizes_of s) (Named (policy_of s)) k → NoBlanks (policy_of s) k
-of_named s e k c = no_blanks (policy_of s) (policy-proper s e) k c
+of_named : (s : List ℕ) → policy_answer s ≡ C.Accepted → (k : Knowledge) → Complete (sizes_of s) (Named (policy_of s)) k → NoBlanks (policy_of s) k
+of_named s e k c = no_blanks (policy_of s) (policy_proper s e) k c
 
 -- ---- its sheet
 
@@ -99,7 +99,7 @@ module _ (s : List ℕ) (x : State) (d : (open_state s x).answer ≡ Done) where
       let o = opens s x d in
       let sent : (m : Message) → Sends (sizes_of s) cs m → Admits (sizes_of s) w m = λ m z. rw (← z.3) (a z.0 z.1 z.2) in
       let ups = subst (λ (y : State). KeptUp (policy_of s) (origin_of s) (run_calls s y cs) (Sends (sizes_of s) cs)) (sym o.state)
-      (all_up s o.card (policy-proper s o.card) (ranged s o.card) w cs sent) in
+      (all_up s o.card (policy_proper s o.card) (ranged s o.card) w cs sent) in
       whole (policy_of s) (origin_of s) (after s x cs) _ ups P w r
 
   full : (cs : List Call) (w : Trace (sizes_of s)) → AllTold (sizes_of s) (Named (policy_of s)) w (after s x cs).known → FullSheet s w (after s x cs) (accepted s x cs)
@@ -120,8 +120,8 @@ module _ (s : List ℕ) (x : State) (d : (open_state s x).answer ≡ Done) where
 
 pub complete_shifts : CompleteShifts
 complete_shifts = record {
-  reaches = λ s e l. unroll_reach _ (policy-proper s e).earlier l;
-  asked = reach-causes;
+  reaches = λ s e l. unroll_reach _ (policy_proper s e).earlier l;
+  asked = reach_causes;
   of_record = λ s e k c. of_named s e k (for_fewer (sizes_of s) Every (Named (policy_of s)) k (λ i n. tt) c);
   of_named = of_named;
   truth = λ s k sound words r t n w g. plain_verdict (policy_of s) k (marks_in (sizes_of s) k sound words) r t n w g;

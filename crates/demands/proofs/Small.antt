@@ -4,8 +4,8 @@ use Rattle.std.proofs.Common.{sym, ap, ◌∙◌}
 use Rattle.bits.specs.Digits.{digit, below, expanded}
 use Rattle.bits.specs.Bits.{bit}
 use Rattle.mtl.specs.Reading.{since, until, deep, reading}
-use Rattle.policy.specs.Format.{line_length, fields_at, keeps_kind, good_line, meaning, formula_of, subformula_of, subformula_at, heading_checks, offset, line_checks, lines_checks, lines_up_to, subformulas_of, rule_lines, rules_up_to, closing_checks, policy_checks, answer_of as policy-answer, policy_of}
-use Rattle.message.specs.Format.{component_of, minute_of, number_of, named_of, packed_of, length_of, fields_of, good_alive, good_observation, all_written, good_fields, answer_of as message-answer, event_in, used_of, messages_of}
+use Rattle.policy.specs.Format.{line_length, fields_at, keeps_kind, good_line, meaning, formula_of, subformula_of, subformula_at, heading_checks, offset, line_checks, lines_checks, lines_up_to, subformulas_of, rule_lines, rules_up_to, closing_checks, policy_checks, answer_of as policy_answer, policy_of}
+use Rattle.message.specs.Format.{component_of, minute_of, number_of, named_of, packed_of, length_of, fields_of, good_alive, good_observation, all_written, good_fields, answer_of as message_answer, event_in, used_of, messages_of}
 use Rattle.message.specs.Fixes.{meaning_of}
 use Rattle.knowledge.specs.Knowledge.{follow, steady, level, full, word_sound, words_agree, noted, valued, number, is_point, is_none, sound, fresh, stored, free, admits}
 use Rattle.valuation.specs.Sheets.{valuation_of, verdicts_of, standing}
@@ -18,17 +18,17 @@ use Rattle.demands.specs.Small.{A, A', B, D, K, LostSlips, N, SixKinds, SmallPac
 -- what is assumed of x and y below is so for any buffers of the cards' sizes: both openings are done
 pub opens_sized : (n f v d : List ℕ) (o : Origin) → length n ≡ 5 → length f ≡ 8 → length v ≡ 12 → length d ≡ 4 → length o.bytes ≡ 517
     → ((open_state K (lent n f v d o)).answer ≡ Done) × ((open_state U (lent n f v d o)).answer ≡ Done)
-unfolding open_state line_length fields_at keeps_kind good_line meaning formula_of subformula_of subformula_at heading_checks offset line_checks lines_checks lines_up_to subformulas_of rule_lines rules_up_to closing_checks policy_checks policy-answer policy_of sizes_fit
+unfolding open_state line_length fields_at keeps_kind good_line meaning formula_of subformula_of subformula_at heading_checks offset line_checks lines_checks lines_up_to subformulas_of rule_lines rules_up_to closing_checks policy_checks policy_answer policy_of sizes_fit
 opens_sized n f v d o a b c e g = (rw (a, b, c, e, g) refl, rw (a, b, c, e, g) refl)
 
 pub opens_lost : (n f v d : List ℕ) (o : Origin) → length n ≡ 5 → length f ≡ 8 → length v ≡ 4 → length d ≡ 4 → length o.bytes ≡ 517
     → (open_state T (lent n f v d o)).answer ≡ Done
-unfolding open_state line_length fields_at keeps_kind good_line meaning formula_of subformula_of subformula_at heading_checks offset line_checks lines_checks lines_up_to subformulas_of rule_lines rules_up_to closing_checks policy_checks policy-answer policy_of sizes_fit
+unfolding open_state line_length fields_at keeps_kind good_line meaning formula_of subformula_of subformula_at heading_checks offset line_checks lines_checks lines_up_to subformulas_of rule_lines rules_up_to closing_checks policy_checks policy_answer policy_of sizes_fit
 opens_lost n f v d o a b c e g = rw (a, b, c, e, g) refl
 
 pub opens_six : (n f v d : List ℕ) (o : Origin) → length n ≡ 5 → length f ≡ 8 → length v ≡ 32 → length d ≡ 24 → length o.bytes ≡ 517
     → (open_state N (lent n f v d o)).answer ≡ Done
-unfolding open_state line_length fields_at keeps_kind good_line meaning formula_of subformula_of subformula_at heading_checks offset line_checks lines_checks lines_up_to subformulas_of rule_lines rules_up_to closing_checks policy_checks policy-answer policy_of sizes_fit
+unfolding open_state line_length fields_at keeps_kind good_line meaning formula_of subformula_of subformula_at heading_checks offset line_checks lines_checks lines_up_to subformulas_of rule_lines rules_up_to closing_checks policy_checks policy_answer policy_of sizes_fit
 opens_six n f v d o a b c e g = rw (a, b, c, e, g) refl
 
 -- each case, from the opened state on
@@ -43,7 +43,7 @@ module _ (s : List ℕ) (x : State) (e : (open_state s x).state ≡ opened (poli
   reply_from bs b = ap (λ (y : State). (receive s (run_calls s y (map Receive bs)) b).answer) e
 
 pub small_shift : (x y : State) → (open_state K x).answer ≡ Done → (open_state U y).answer ≡ Done → SmallShift x y
-unfolding digit below expanded bit since until deep reading line_length fields_at keeps_kind good_line meaning formula_of subformula_of subformula_at heading_checks offset line_checks lines_checks lines_up_to subformulas_of rule_lines rules_up_to closing_checks policy_checks policy-answer policy_of component_of minute_of number_of named_of packed_of length_of fields_of good_alive good_observation all_written good_fields message-answer event_in meaning_of noted valued number is_point is_none sound fresh stored free admits valuation_of verdicts_of standing sizes_fit opened opened_under receive follow steady level full word_sound words_agree
+unfolding digit below expanded bit since until deep reading line_length fields_at keeps_kind good_line meaning formula_of subformula_of subformula_at heading_checks offset line_checks lines_checks lines_up_to subformulas_of rule_lines rules_up_to closing_checks policy_checks policy_answer policy_of component_of minute_of number_of named_of packed_of length_of fields_of good_alive good_observation all_written good_fields message_answer event_in meaning_of noted valued number is_point is_none sound fresh stored free admits valuation_of verdicts_of standing sizes_fit opened opened_under receive follow steady level full word_sound words_agree
 small_shift x y d e =
     let k : (open_state K x).state ≡ opened (policy_of K) (origin_of K) = (opens K x d).state in
     let u : (open_state U y).state ≡ opened (policy_of U) (origin_of U) = (opens U y e).state in
@@ -68,7 +68,7 @@ small_shift x y d e =
     }
 
 pub lost_slips : (x : State) → (open_state T x).answer ≡ Done → LostSlips x
-unfolding digit below expanded bit since until deep reading line_length fields_at keeps_kind good_line meaning formula_of subformula_of subformula_at heading_checks offset line_checks lines_checks lines_up_to subformulas_of rule_lines rules_up_to closing_checks policy_checks policy-answer policy_of component_of minute_of number_of named_of packed_of length_of fields_of good_alive good_observation all_written good_fields message-answer event_in meaning_of noted valued number is_point is_none sound fresh stored free admits valuation_of verdicts_of standing sizes_fit opened opened_under receive follow steady level full word_sound words_agree
+unfolding digit below expanded bit since until deep reading line_length fields_at keeps_kind good_line meaning formula_of subformula_of subformula_at heading_checks offset line_checks lines_checks lines_up_to subformulas_of rule_lines rules_up_to closing_checks policy_checks policy_answer policy_of component_of minute_of number_of named_of packed_of length_of fields_of good_alive good_observation all_written good_fields message_answer event_in meaning_of noted valued number is_point is_none sound fresh stored free admits valuation_of verdicts_of standing sizes_fit opened opened_under receive follow steady level full word_sound words_agree
 lost_slips x d =
     let k : (open_state T x).state ≡ opened (policy_of T) (origin_of T) = (opens T x d).state in
     record {
@@ -80,7 +80,7 @@ lost_slips x d =
     }
 
 pub six_kinds : (x : State) → (open_state N x).answer ≡ Done → SixKinds x
-unfolding digit below expanded bit since until deep reading line_length fields_at keeps_kind good_line meaning formula_of subformula_of subformula_at heading_checks offset line_checks lines_checks lines_up_to subformulas_of rule_lines rules_up_to closing_checks policy_checks policy-answer policy_of component_of minute_of number_of named_of packed_of length_of fields_of good_alive good_observation all_written good_fields message-answer event_in meaning_of noted valued number is_point is_none sound fresh stored free admits valuation_of verdicts_of standing sizes_fit opened opened_under receive follow steady level full word_sound words_agree
+unfolding digit below expanded bit since until deep reading line_length fields_at keeps_kind good_line meaning formula_of subformula_of subformula_at heading_checks offset line_checks lines_checks lines_up_to subformulas_of rule_lines rules_up_to closing_checks policy_checks policy_answer policy_of component_of minute_of number_of named_of packed_of length_of fields_of good_alive good_observation all_written good_fields message_answer event_in meaning_of noted valued number is_point is_none sound fresh stored free admits valuation_of verdicts_of standing sizes_fit opened opened_under receive follow steady level full word_sound words_agree
 six_kinds x d =
     let k : (open_state N x).state ≡ opened (policy_of N) (origin_of N) = (opens N x d).state in
     record {
@@ -103,7 +103,7 @@ module _ (x : State) (e : (open_state K x).state ≡ opened (policy_of K) (origi
   left_from b = ap (λ (o : PacketOutcome). o.state) (frame_from b)
 
 pub small_packets : (x : State) → (open_state K x).answer ≡ Done → SmallPackets x
-unfolding digit below expanded bit since until deep reading line_length fields_at keeps_kind good_line meaning formula_of subformula_of subformula_at heading_checks offset line_checks lines_checks lines_up_to subformulas_of rule_lines rules_up_to closing_checks policy_checks policy-answer policy_of component_of minute_of number_of named_of packed_of length_of fields_of good_alive good_observation all_written good_fields message-answer event_in meaning_of noted valued number is_point is_none sound fresh stored free admits valuation_of verdicts_of standing sizes_fit opened opened_under receive follow steady level full word_sound words_agree receive_packet messages_of used_of
+unfolding digit below expanded bit since until deep reading line_length fields_at keeps_kind good_line meaning formula_of subformula_of subformula_at heading_checks offset line_checks lines_checks lines_up_to subformulas_of rule_lines rules_up_to closing_checks policy_checks policy_answer policy_of component_of minute_of number_of named_of packed_of length_of fields_of good_alive good_observation all_written good_fields message_answer event_in meaning_of noted valued number is_point is_none sound fresh stored free admits valuation_of verdicts_of standing sizes_fit opened opened_under receive follow steady level full word_sound words_agree receive_packet messages_of used_of
 small_packets x d =
     let k : (open_state K x).state ≡ opened (policy_of K) (origin_of K) = (opens K x d).state in
     record {
@@ -122,7 +122,7 @@ small_packets x d =
     }
 
 opened_cards : TwoCards (opened (policy_of K) (origin_of K))
-unfolding digit below expanded bit since until deep reading line_length fields_at keeps_kind good_line meaning formula_of subformula_of subformula_at heading_checks offset line_checks lines_checks lines_up_to subformulas_of rule_lines rules_up_to closing_checks policy_checks policy-answer policy_of component_of minute_of number_of named_of packed_of length_of fields_of good_alive good_observation all_written good_fields message-answer event_in meaning_of noted valued number is_point is_none sound fresh stored free admits valuation_of verdicts_of standing sizes_fit opened opened_under receive follow steady level full word_sound words_agree open_state receive_packet messages_of used_of
+unfolding digit below expanded bit since until deep reading line_length fields_at keeps_kind good_line meaning formula_of subformula_of subformula_at heading_checks offset line_checks lines_checks lines_up_to subformulas_of rule_lines rules_up_to closing_checks policy_checks policy_answer policy_of component_of minute_of number_of named_of packed_of length_of fields_of good_alive good_observation all_written good_fields message_answer event_in meaning_of noted valued number is_point is_none sound fresh stored free admits valuation_of verdicts_of standing sizes_fit opened opened_under receive follow steady level full word_sound words_agree open_state receive_packet messages_of used_of
 opened_cards = record {
   stored = refl;
   take_other = refl;

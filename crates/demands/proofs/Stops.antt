@@ -10,7 +10,7 @@ use Rattle.refusal.specs.declared.Answer.{Answer as Checked}
 use Rattle.refusal.specs.declared.Answer.TheVariants as C
 use Rattle.refusal.specs.Numbers.{refusal_number, refusal_place, refusal_of, packet_place}
 use Rattle.refusal.proofs.Numbers.{first_place}
-use Rattle.refusal.specs.Checks.{Check, first_failed, and_then, Passed as All-passed, Refuses, RefusedWith}
+use Rattle.refusal.specs.Checks.{Check, first_failed, and_then, Passed as AllPassed, Refuses, RefusedWith}
 use Rattle.refusal.proofs.Laws.{not_accepted, same_refusal, refusal_law, passing_law, in_order, refused_where, the_refusal}
 use Rattle.policy.specs.Format.{policy_of}
 use Rattle.policy.proofs.Causes.{causes as policy_causes}
@@ -18,7 +18,7 @@ use Rattle.message.specs.Format.{length_of, used_of, rest_of, messages_of}
 use Rattle.message.specs.Packet.{Packed, no_more, whole, cut}
 use Rattle.message.proofs.First.{packed, messages_none, messages_some}
 use Rattle.message.specs.Fixes.{meaning_of}
-use Rattle.message.specs.Proper.{Cut as Cut-message, early, extra}
+use Rattle.message.specs.Proper.{Cut as CutMessage, early, extra}
 use Rattle.monitor.specs.declared.Answer.TheVariants.{Refused}
 use Rattle.monitor.specs.declared.Stop.{Stop}
 use Rattle.monitor.specs.declared.Stop.TheVariants as P
@@ -76,7 +76,7 @@ module _ (s : List ℕ) where
       failed : first_failed (take_checks s x m) ≡ C.Refused r
       failed = sym (reply_unless (first_failed (take_checks s x m)) x (settled (policy_of s) x (meaning_of m)) refl) ∙ ap reply e
 
-      go : Refuses (firsts x) r ⊎ (All-passed (firsts x) × Refuses (slip_checks (policy_of s) x m) r) → (7 ≤ refusal_number r) × (refusal_number r ≤ 9)
+      go : Refuses (firsts x) r ⊎ (AllPassed (firsts x) × Refuses (slip_checks (policy_of s) x m) r) → (7 ≤ refusal_number r) × (refusal_number r ≤ 9)
       go (inl q) = absurd (not_accepted r (sym ((refusal_law (firsts x) r).1 q) ∙ (first_law x).1 ok))
       go (inr q) = slip_number s x m r q.1
 
@@ -221,10 +221,10 @@ module _ (s : List ℕ) where
     still_passed ok c = subst (Passed s) (sym c.state) (passed_each s c.before x ok c.taken)
 
     -- a message that is cut ends with the packet
-    ended : {m : List ℕ} {start : ℕ} {y : State} → ComesTo s x b m start y → (p : ℕ) → Cut-message m p → (p ≡ length m) × (length m < length_of m) × (start + length m ≡ length b)
+    ended : {m : List ℕ} {start : ℕ} {y : State} → ComesTo s x b m start y → (p : ℕ) → CutMessage m p → (p ≡ length m) × (length m < length_of m) × (start + length m ≡ length b)
     ended {m} {start} c p q = go p q (piece (packed b) c.before m c.behind c.cut)
       where
-        go : (p : ℕ) → Cut-message m p → (length m ≡ length_of m) ⊎ ((length m < length_of m) × (bytes_in c.before + length m ≡ length b))
+        go : (p : ℕ) → CutMessage m p → (length m ≡ length_of m) ⊎ ((length m < length_of m) × (bytes_in c.before + length m ≡ length b))
             → (p ≡ length m) × (length m < length_of m) × (start + length m ≡ length b)
         go p (early h) (inl e) = absurd (omega arith)
         go p (early h) (inr e) = (refl, h, omega (arith, e.1, c.starts))

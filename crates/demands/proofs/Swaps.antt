@@ -9,9 +9,9 @@ use Rattle.refusal.specs.declared.Refusal.TheVariants.{CorruptKnowledge}
 use Rattle.refusal.specs.declared.Answer.{Answer as Checked}
 use Rattle.refusal.specs.declared.Answer.TheVariants as C
 use Rattle.refusal.specs.Numbers.{refusal_number, refusal_place}
-use Rattle.refusal.specs.Checks.{check, first_failed, and_then, Passed as All-passed, Refuses, RefusedWith}
+use Rattle.refusal.specs.Checks.{check, first_failed, and_then, Passed as AllPassed, Refuses, RefusedWith}
 use Rattle.refusal.proofs.Laws.{not_accepted, refusal_law, passing_law, in_order, refused_where}
-use Rattle.policy.specs.Format.{answer_of as policy-answer, policy_of}
+use Rattle.policy.specs.Format.{answer_of as policy_answer, policy_of}
 use Rattle.policy.proofs.Causes.{causes as policy_causes}
 use Rattle.message.specs.Format.{messages_of}
 use Rattle.message.specs.Fixes.{meaning_of}
@@ -91,7 +91,7 @@ last_or_none (c ∷ cs) x = go (last_or_none cs (lending_state x c))
 
 -- the state is of the card's sizes, and was opened under it
 record Under (r : List ℕ) (y : State) : Type 0 where
-  card : policy-answer r ≡ C.Accepted
+  card : policy_answer r ≡ C.Accepted
   sized : Sized (policy_of r) y
   origin : y.origin ≡ origin_of r
 
@@ -208,11 +208,11 @@ module _ (s : List ℕ) (y : State) (b : List ℕ) where
       passed : first_failed (origin_checks s y) ≡ C.Accepted
       passed = (passing_law (origin_checks s y)).1 ((passed_origin s (policy_causes s) y).1 k)
 
-      six : (q : Refusal) → Refuses (origin_checks s y) q ⊎ (All-passed (origin_checks s y) × Refuses (check clean CorruptKnowledge ∷ []) q) → refusal_number q ≡ 6
+      six : (q : Refusal) → Refuses (origin_checks s y) q ⊎ (AllPassed (origin_checks s y) × Refuses (check clean CorruptKnowledge ∷ []) q) → refusal_number q ≡ 6
       six q (inl h) = absurd (not_accepted q (sym ((refusal_law (origin_checks s y) q).1 h) ∙ passed))
       six q (inr h) = one_number clean CorruptKnowledge q h.1
 
-      later : (q : Refusal) → Refuses (record_checks s y) q ⊎ (All-passed (record_checks s y) × Refuses (slip_checks (policy_of s) y b) q) → refusal_number q ≡ n → (6 ≤ n) × (n ≢ 12)
+      later : (q : Refusal) → Refuses (record_checks s y) q ⊎ (AllPassed (record_checks s y) × Refuses (slip_checks (policy_of s) y b) q) → refusal_number q ≡ n → (6 ≤ n) × (n ≢ 12)
       later q (inl h) e = let i = six q (refused_where (origin_checks s y) (check clean CorruptKnowledge ∷ []) q h) in (omega (arith, i, e), λ z. omega (arith, i, e, z))
       later q (inr h) e = let i = slip_number s y b q h.1 in (omega (arith, i, e), λ z. omega (arith, i, e, z))
 

@@ -2,7 +2,7 @@
 use Rattle.std.specs.Prelude.{ℕ, suc, ◌+◌, ◌≤◌, ◌<◌, ◌≡◌, refl, Bool, true, false, cond}
 use Rattle.std.proofs.Common.{arith, sym, ap, ◌∙◌, ltb-true}
 use Rattle.kleene.specs.Truth.{unknown, false3, true3, ◌⊑◌, less, same}
-use Rattle.mtl.specs.Knowing.{Knows, TrueTo, Settles, open3, is_true, is_false as is-no}
+use Rattle.mtl.specs.Knowing.{Knows, TrueTo, Settles, open3, is_true, is_false as is_no}
 use Rattle.knowledge.specs.Knowledge.{none, says, Knowledge, noted, valued, fact, number, Sound, Agrees, Equal, Apart, Level, Full, KnownPoint, KnownNone, is_point, is_none, world}
 use Rattle.knowledge.specs.Trace.{Trace, made, time_point, trace_world}
 use Rattle.mtl.proofs.Folds.{some_below, none_below}
@@ -117,10 +117,10 @@ module _ (z : Sizes) where
       where
         points : (t : ℕ) → t < z.minutes → (p : Bool) → is_point z k t ≡ p → (q : Bool) → is_none z k t ≡ q → Settles (says p q) (time_point z w t)
         points t h true e q f = rw (point_so t ((point_law z k t).0 e)) is_true
-        points t h false e true f = rw (none_so t ((none_law z k t).0 f)) is-no
+        points t h false e true f = rw (none_so t ((none_law z k t).0 f)) is_no
         points t h false e false f = open3
 
         factual : (i t : ℕ) → t < z.minutes → (b : Bool) → noted k i t ≡ b → (v : Bool) → valued k i t ≡ v → Settles (cond b (cond v true3 false3) unknown) (w.value i t)
         factual i t h true e true f = rw (g.facts i t (marked i t h e) h e ∙ f) is_true
-        factual i t h true e false f = rw (g.facts i t (marked i t h e) h e ∙ f) is-no
+        factual i t h true e false f = rw (g.facts i t (marked i t h e) h e ∙ f) is_no
         factual i t h false e v f = open3

@@ -18,7 +18,7 @@ use Rattle.refusal.specs.Writes.{reply}
 use Rattle.refusal.proofs.Writes.{alike, told, kept_rest, unwritten}
 use Rattle.policy.specs.declared.Sizes.{Sizes}
 use Rattle.policy.specs.Format.{policy_checks, policy_of}
-use Rattle.policy.specs.Format.{answer_of as policy-answer}
+use Rattle.policy.specs.Format.{answer_of as policy_answer}
 use Rattle.policy.proofs.Ranges.{fails, denies}
 use Rattle.policy.proofs.Causes.{policy_refuses}
 use Rattle.policy.proofs.CheckedFirst.{both_passed, once_accepted, by_policy}
@@ -130,11 +130,11 @@ module _ (s : List ℕ) (n : MessageNumbers) (out : List ℕ) where
       go (inl f) = inl (policy_refuses s r f)
       go (inr f) = inr (later_numbers r f.1)
 
-  passed : Passed cs ↔ ((policy-answer s ≡ Accepted) × InRange z n × (length (text_of n) ≤ length out))
+  passed : Passed cs ↔ ((policy_answer s ≡ Accepted) × InRange z n × (length (text_of n) ≤ length out))
   unfolding encode_checks writing_checks
   passed = (λ q. let p = (both_passed s later).0 q in told_by p.0 p.1, λ q. (both_passed s later).1 (q.0, passes q.1 q.2))
     where
-      told_by : policy-answer s ≡ Accepted → Passed later → (policy-answer s ≡ Accepted) × InRange z n × (length (text_of n) ≤ length out)
+      told_by : policy_answer s ≡ Accepted → Passed later → (policy_answer s ≡ Accepted) × InRange z n × (length (text_of n) ≤ length out)
       told_by a (pass b (pass c none)) = (a, (numbers_law z n).0 b, leb-true _ _ c)
 
       passes : InRange z n → length (text_of n) ≤ length out → Passed later

@@ -17,7 +17,7 @@ use Rattle.encoding.proofs.Texts.{stands_first, stands_next, stands_both, length
 use Rattle.refusal.specs.declared.Answer.TheVariants.{Accepted}
 use Rattle.policy.specs.declared.Sizes.{Sizes}
 use Rattle.policy.specs.Format.{policy_of}
-use Rattle.policy.specs.Format.{answer_of as policy-answer}
+use Rattle.policy.specs.Format.{answer_of as policy_answer}
 use Rattle.policy.proofs.Laws.{accepted}
 use Rattle.message.specs.declared.Event.{Event}
 use Rattle.message.specs.declared.Event.TheVariants.{Observation, Alive}
@@ -299,10 +299,10 @@ module _ (z : Sizes) (ok : SizesIn z) where
 
 -- ---- under an accepted policy
 
-pub sizes_in : (s : List ℕ) → policy-answer s ≡ Accepted → SizesIn (policy_of s).sizes
+pub sizes_in : (s : List ℕ) → policy_answer s ≡ Accepted → SizesIn (policy_of s).sizes
 sizes_in s e = let p = accepted s e in record { propositions_in = p.propositions; components_in = p.components; minutes_in = p.minutes }
 
-pub encodes : (s : List ℕ) → policy-answer s ≡ Accepted → Encodes s
+pub encodes : (s : List ℕ) → policy_answer s ≡ Accepted → Encodes s
 encodes s a =
     let trip = round_trip (policy_of s).sizes (sizes_in s a) in
     record {

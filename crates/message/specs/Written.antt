@@ -10,7 +10,7 @@ use Rattle.refusal.specs.Writes.{Output, reply}
 use Rattle.policy.specs.Encoded.{PropositionsIn, ComponentsIn, MinutesIn}
 use Rattle.policy.specs.declared.Sizes.{Sizes}
 use Rattle.policy.specs.Format.{policy_of}
-use Rattle.policy.specs.Format.{answer_of as policy-answer}
+use Rattle.policy.specs.Format.{answer_of as policy_answer}
 use Rattle.message.specs.declared.MessageNumbers.{MessageNumbers}
 use Rattle.message.specs.Fixes.{Message, WellFormed, meaning_of}
 use Rattle.message.specs.Text.{numbers_of, InRange, text_of, encode_of}
@@ -18,17 +18,17 @@ use Rattle.message.specs.Text.{numbers_of, InRange, text_of, encode_of}
 -- the writer's outcome o, given the bytes s of a card, the numbers n and the lent buffer
 pub record EncodeCauses (s : List ℕ) (n : MessageNumbers) (out : List ℕ) (o : Output) : Type 0 where
   -- "its card, checked first": 1 to 4 as the card's reader answers them, with its places
-  pub policy : (k at : ℕ) → k ≤ 4 → RefusedWith (reply o.answer) k at ↔ RefusedWith (policy-answer s) k at
+  pub policy : (k at : ℕ) → k ≤ 4 → RefusedWith (reply o.answer) k at ↔ RefusedWith (policy_answer s) k at
   -- "Out-of-range fields are refused with the reader's numbers .. 8, .. at place 0"
   pub eight : (at : ℕ) → RefusedWith (reply o.answer) 8 at
-      ↔ ((at ≡ 0) × (policy-answer s ≡ Accepted) × (InRange (policy_of s).sizes n → ⊥))
+      ↔ ((at ≡ 0) × (policy_answer s ≡ Accepted) × (InRange (policy_of s).sizes n → ⊥))
   -- "11, short paper, when the lent buffer is shorter than the text, tested after those"
   pub eleven : (at : ℕ) → RefusedWith (reply o.answer) 11 at
-      ↔ ((at ≡ 0) × (policy-answer s ≡ Accepted) × InRange (policy_of s).sizes n × (length out < length (text_of n)))
+      ↔ ((at ≡ 0) × (policy_answer s ≡ Accepted) × InRange (policy_of s).sizes n × (length out < length (text_of n)))
   pub no_other : (k at : ℕ) → RefusedWith (reply o.answer) k at → ((1 ≤ k) × (k ≤ 4)) ⊎ ((k ≡ 8) ⊎ (k ≡ 11))
   -- "write the slip .. and give its length"
   pub done : (k : ℕ) → (o.answer ≡ Length k)
-      ↔ ((policy-answer s ≡ Accepted) × InRange (policy_of s).sizes n × (length (text_of n) ≤ length out) × (k ≡ length (text_of n)))
+      ↔ ((policy_answer s ≡ Accepted) × InRange (policy_of s).sizes n × (length (text_of n) ≤ length out) × (k ≡ length (text_of n)))
   -- "a call added later that writes into a longer buffer keeps the rest of it"
   pub text : (k : ℕ) → o.answer ≡ Length k → o.out ≡ text_of n ++ drop k out
   -- "nothing is written then"

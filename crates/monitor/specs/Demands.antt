@@ -18,18 +18,18 @@ use Rattle.policy.specs.declared.Sizes.{Sizes}
 use Rattle.policy.specs.declared.Policy.{Policy}
 use Rattle.policy.specs.Format.{policy_of, count_of, rules_up_to}
 use Rattle.policy.specs.declared.PolicyNumbers.{PolicyNumbers}
-use Rattle.policy.specs.Format.{answer_of as policy-answer}
-use Rattle.policy.specs.Text.{encode_of as encode-policy}
-use Rattle.policy.specs.Written.{EncodeCauses as Policy-encoded, RoundTrip as Policy-round-trip}
+use Rattle.policy.specs.Format.{answer_of as policy_answer}
+use Rattle.policy.specs.Text.{encode_of as encode_policy}
+use Rattle.policy.specs.Written.{EncodeCauses as PolicyEncoded, RoundTrip as PolicyRoundTrip}
 use Rattle.policy.specs.Proper.{formula_at, rules_of, Between, Cut, Misheaded, Misformed, Whole}
 use Rattle.message.specs.declared.MessageNumbers.{MessageNumbers}
 use Rattle.message.specs.Format.{length_of, messages_of}
-use Rattle.message.specs.Text.{encode_of as encode-message}
-use Rattle.message.specs.Written.{EncodeCauses as Message-encoded, SizesIn, RoundTrip as Message-round-trip, Encodes}
+use Rattle.message.specs.Text.{encode_of as encode_message}
+use Rattle.message.specs.Written.{EncodeCauses as MessageEncoded, SizesIn, RoundTrip as MessageRoundTrip, Encodes}
 use Rattle.message.specs.Packet.{Packed}
 use Rattle.message.specs.Encoded.{IsMessage}
 use Rattle.message.specs.Fixes.{Message, FixesNumber, FixesFact, WellFormed, meaning_of}
-use Rattle.message.specs.Proper.{Cut as Cut-message}
+use Rattle.message.specs.Proper.{Cut as CutMessage}
 use Rattle.knowledge.specs.Trace.{Trace, Admits, AdmitsAll, time_point}
 use Rattle.knowledge.specs.Knowledge.{Knowledge, none, noted, valued, fact, number, Sound, Agrees, KnownPoint, KnownNone}
 use Rattle.knowledge.specs.Exact.{ExactPoints}
@@ -149,7 +149,7 @@ pub record TakeCauses (s : List ℕ) (x : State) (b : List ℕ) (o : Outcome) : 
       ↔ ((at ≡ 0) × PolicyPassed s × Sized (policy_of s) x × (x.origin ≡ origin_of s → ⊥))
   pub six : (at : ℕ) → RefusedWith (reply o.answer) 6 at
       ↔ ((at ≡ 0) × PolicyPassed s × Sized (policy_of s) x × (x.origin ≡ origin_of s) × (Sound (sizes_of s) x.known → ⊥))
-  pub seven : (at : ℕ) → RefusedWith (reply o.answer) 7 at ↔ (Passed s x × Cut-message b at)
+  pub seven : (at : ℕ) → RefusedWith (reply o.answer) 7 at ↔ (Passed s x × CutMessage b at)
   pub eight : (at : ℕ) → RefusedWith (reply o.answer) 8 at
       ↔ ((at ≡ 0) × Passed s x × (length b ≡ length_of b) × (IsMessage (sizes_of s) b → ⊥))
   pub nine : (at : ℕ) → RefusedWith (reply o.answer) 9 at
@@ -413,12 +413,12 @@ pub record Demand3Packets : Type 0 where
 pub record Writers : Type 0 where
   -- "Out-of-range fields are refused with the reader's numbers 2, 3, 4 and 8, in that order, at place 0. Checks: 11, short paper, when the lent buffer is
   -- shorter than the text, tested after those; nothing is written then": each is answered exactly for its own cause
-  pub policy_causes : (p : PolicyNumbers) (out : List ℕ) → Policy-encoded p out (encode-policy p out)
-  pub message_causes : (s : List ℕ) (n : MessageNumbers) (out : List ℕ) → Message-encoded s n out (encode-message s n out)
+  pub policy_causes : (p : PolicyNumbers) (out : List ℕ) → PolicyEncoded p out (encode_policy p out)
+  pub message_causes : (s : List ℕ) (n : MessageNumbers) (out : List ℕ) → MessageEncoded s n out (encode_message s n out)
   -- "Reading gives the fields again, and writing an accepted card or slip gives its own bytes"; and the readers accept the texts and no other bytes
-  pub policies : Policy-round-trip
-  pub messages : (z : Sizes) → SizesIn z → Message-round-trip z
-  pub under_policy : (s : List ℕ) → policy-answer s ≡ C.Accepted → SizesIn (sizes_of s) × Encodes s
+  pub policies : PolicyRoundTrip
+  pub messages : (z : Sizes) → SizesIn z → MessageRoundTrip z
+  pub under_policy : (s : List ℕ) → policy_answer s ≡ C.Accepted → SizesIn (sizes_of s) × Encodes s
 
 -- ---- known busy and known quiet (02, request 4)
 
@@ -512,14 +512,14 @@ FullSheet s w x ms = (r t : ℕ) → r < (policy_of s).rules → time_point (siz
 pub record CompleteShifts : Type 1 where
   -- "Call a line's reach 0 for true and marks, the larger of its operands' reaches for others, plus upper for until, eventually and always": `reach_from` has
   -- a line for each kind, and the operands' reaches are the reaches of these lines
-  pub reaches : (s : List ℕ) → policy-answer s ≡ C.Accepted → (l : ℕ)
+  pub reaches : (s : List ℕ) → policy_answer s ≡ C.Accepted → (l : ℕ)
       → reach (formula_at (policy_of s)) l ≡ reach_from (reach (formula_at (policy_of s))) (formula_at (policy_of s) l)
   -- the call that gives them, one for each rule
   pub asked : (s out : List ℕ) → ReachCauses s out (rule_reaches s out)
   -- "Show: if every minute is known busy or quiet and every mark is known at every busy minute, then each busy minute t with t + reach below M has a verdict"
-  pub of_record : (s : List ℕ) → policy-answer s ≡ C.Accepted → (k : Knowledge) → Complete (sizes_of s) Every k → NoBlanks (policy_of s) k
+  pub of_record : (s : List ℕ) → policy_answer s ≡ C.Accepted → (k : Knowledge) → Complete (sizes_of s) Every k → NoBlanks (policy_of s) k
   -- and already where only the marks are known that lines of the card name
-  pub of_named : (s : List ℕ) → policy-answer s ≡ C.Accepted → (k : Knowledge) → Complete (sizes_of s) (Named (policy_of s)) k → NoBlanks (policy_of s) k
+  pub of_named : (s : List ℕ) → policy_answer s ≡ C.Accepted → (k : Knowledge) → Complete (sizes_of s) (Named (policy_of s)) k → NoBlanks (policy_of s) k
   -- a verdict that a sound record gives, of 32-bit facts, is the plain two-valued one in every shift that fits it
   pub truth : (s : List ℕ) (k : Knowledge) → Sound (sizes_of s) k → ((i : ℕ) → get_or k.facts i 0 < 4294967296) → (r t : ℕ)
       → verdict (policy_of s) k r t ≢ 0 → (w : Trace (sizes_of s)) → Agrees (sizes_of s) w k → Plain (policy_of s) w r t (verdict (policy_of s) k r t)

@@ -6,8 +6,8 @@ ghost use Rattle.std.specs.Prelude.{◌≡◌};
 ghost use Rattle.origin.specs.Origin.{stamped};
 ghost use Rattle.monitor.specs.State.{lent, open_state, receive, receive_packet};
 ghost use Rattle.monitor.specs.Lookup.{lookup_of};
-ghost use Rattle.policy.specs.Text.{encode_of as encode-policy};
-ghost use Rattle.message.specs.Text.{encode_of as encode-message};
+ghost use Rattle.policy.specs.Text.{encode_of as encode_policy};
+ghost use Rattle.message.specs.Text.{encode_of as encode_message};
 ghost use Rattle.rule_text.specs.Compiled.{compile_of};
 ghost use Rattle.reach.specs.Reaches.{rule_reaches};
 ghost use Rattle.c_answers.specs.Returned.{Returned, returned, ReturnedPacket, returned_packet, look_number, look_detail, ReturnedText, returned_text, policy_numbers, message_numbers};
@@ -122,7 +122,7 @@ pub extern "C" fn zankezurt_encode_policy(
 ) -> u8
     ensures { ◌≡◌ {A = ReturnedText}
         (record { number = result; detail = detail.new; out = out.new })
-        (returned_text (encode-policy (policy_numbers propositions components minutes count fields.now) out.old)) }
+        (returned_text (encode_policy (policy_numbers propositions components minutes count fields.now) out.old)) }
 {
     let lines = lines_from(fields);
     let numbers = PolicyNumbers {
@@ -152,7 +152,7 @@ pub extern "C" fn zankezurt_encode_message(
 ) -> u8
     ensures { ◌≡◌ {A = ReturnedText}
         (record { number = result; detail = detail.new; out = out.new })
-        (returned_text (encode-message policy.now (message_numbers component alive minute number named values) out.old)) }
+        (returned_text (encode_message policy.now (message_numbers component alive minute number named values) out.old)) }
 {
     let numbers = MessageNumbers {
         component: component,

@@ -11,11 +11,11 @@ use Rattle.refusal.specs.Checks.{check, first_failed, and_then}
 use Rattle.refusal.proofs.Laws.{in_order}
 use Rattle.policy.specs.declared.Sizes.{Sizes}
 use Rattle.policy.specs.declared.Policy.{Policy}
-use Rattle.policy.specs.declared.Decoded.{Decoded as Decoded-policy}
+use Rattle.policy.specs.declared.Decoded.{Decoded as DecodedPolicy}
 use Rattle.policy.specs.Format.{policy_of}
 use Rattle.message.specs.declared.Event.{Event}
 use Rattle.message.specs.declared.Decoded.{Decoded}
-use Rattle.message.specs.Format.{message_checks, answer_of as message-answer, decode_of}
+use Rattle.message.specs.Format.{message_checks, answer_of as message_answer, decode_of}
 use Rattle.message.specs.Fixes.{WellFormed, meaning_of}
 use Rattle.message.proofs.Laws.{decoded, decoded_answer}
 use Rattle.knowledge.specs.Knowledge.{admits}
@@ -33,7 +33,7 @@ unless_then (C.Refused r) c x o = refl
 
 -- ---- an opening
 
-module _ (s : List ℕ) (x : State) (d : Decoded-policy) (k : Checks (opening_checks s x) s d) where
+module _ (s : List ℕ) (x : State) (d : DecodedPolicy) (k : Checks (opening_checks s x) s d) where
   pub open_refused : (r : Refusal) → d.answer ≡ C.Refused r → record { answer = Refused r; state = x } ≡ open_state s x
   unfolding open_state
   open_refused r e = sym (ap (λ (a : Checked). unless a x (record { answer = Done; state = opened (policy_of s) (origin_of s) })) (sym k.answer ∙ e))
@@ -47,7 +47,7 @@ module _ (s : List ℕ) (x : State) (d : Decoded-policy) (k : Checks (opening_ch
 
 -- ---- a take
 
-module _ (s : List ℕ) (x : State) (b : List ℕ) (d : Decoded-policy) (k : Checks (record_checks s x) s d) where
+module _ (s : List ℕ) (x : State) (b : List ℕ) (d : DecodedPolicy) (k : Checks (record_checks s x) s d) where
   in_turn : (a : Checked) → d.answer ≡ a → unless a x (take_message (policy_of s) x b) ≡ receive s x b
   unfolding receive
   in_turn a e =
@@ -69,7 +69,7 @@ pub record Heard (z : Sizes) (b : List ℕ) (component : ℕ) (event : Event) : 
   pub formed : WellFormed z b
   pub same : sent component event ≡ meaning_of b
 
-pub message_answered : (z : Sizes) (b : List ℕ) (d : Decoded) (a : Checked) → d ≡ decode_of z b → d.answer ≡ a → message-answer z b ≡ a
+pub message_answered : (z : Sizes) (b : List ℕ) (d : Decoded) (a : Checked) → d ≡ decode_of z b → d.answer ≡ a → message_answer z b ≡ a
 message_answered z b d a e f = sym (decoded_answer z b) ∙ ap (λ (x : Decoded). x.answer) (sym e) ∙ f
 
 pub hear : (z : Sizes) (b : List ℕ) (d : Decoded) → d ≡ decode_of z b → d.answer ≡ C.Accepted → Heard z b d.component d.event
@@ -79,12 +79,12 @@ hear z b d e f =
 
 module _ (p : Policy) (x : State) (b : List ℕ) where
   -- the message's checks, and then 9
-  answers : (a : Checked) → message-answer p.sizes b ≡ a → (v : Bool) → admits p.sizes x.known (meaning_of b) ≡ v
+  answers : (a : Checked) → message_answer p.sizes b ≡ a → (v : Bool) → admits p.sizes x.known (meaning_of b) ≡ v
       → unless (and_then a (first_failed (check v Conflict ∷ []))) x (settled p x (meaning_of b)) ≡ take_message p x b
-  unfolding message-answer
+  unfolding message_answer
   answers a e v f = sym (ap (λ (c : Checked). unless c x (settled p x (meaning_of b))) (after_list (message_checks p.sizes b) (admits p.sizes x.known (meaning_of b)) Conflict a v e f))
 
-  pub message_refused : (r : Refusal) → message-answer p.sizes b ≡ C.Refused r → record { answer = Refused r; state = x } ≡ take_message p x b
+  pub message_refused : (r : Refusal) → message_answer p.sizes b ≡ C.Refused r → record { answer = Refused r; state = x } ≡ take_message p x b
   message_refused r e = answers (C.Refused r) e (admits p.sizes x.known (meaning_of b)) refl
 
   module _ (component : ℕ) (event : Event) (h : Heard p.sizes b component event) where

@@ -19,7 +19,7 @@ use Rattle.refusal.proofs.Numbers.{first_place}
 use Rattle.refusal.specs.Checks.{check, first_failed, and_then}
 use Rattle.policy.specs.declared.Sizes.{Sizes}
 use Rattle.policy.specs.declared.Policy.{Policy}
-use Rattle.policy.specs.declared.Decoded.{Decoded as Decoded-policy}
+use Rattle.policy.specs.declared.Decoded.{Decoded as DecodedPolicy}
 use Rattle.policy.specs.Format.{answer_of, policy_of}
 use Rattle.message.specs.declared.Decoded.{Decoded}
 use Rattle.message.specs.declared.Step.{Step}
@@ -264,7 +264,7 @@ module _ (s : List ℕ) (card : answer_of s ≡ C.Accepted) (limits : Limits (po
 
 -- ---- the call
 
-module _ (s : List ℕ) (x : State) (b : List ℕ) (d : Decoded-policy) (k : Checks (record_checks s x) s d) where
+module _ (s : List ℕ) (x : State) (b : List ℕ) (d : DecodedPolicy) (k : Checks (record_checks s x) s d) where
   pub packet_refused : (r : Refusal) → d.answer ≡ C.Refused r → (place : ℕ) → place ≡ refusal_place r → stopped 0 (P.Refused r place) x ≡ receive_packet s x b
   unfolding receive_packet
   packet_refused r e place q =

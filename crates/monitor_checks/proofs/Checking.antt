@@ -11,8 +11,8 @@ use Rattle.refusal.specs.declared.Answer.TheVariants as C
 use Rattle.refusal.specs.Checks.{Check, check, first_failed, and_then, Passed, pass, none}
 use Rattle.refusal.proofs.Laws.{in_order, passing_law, passed_parts, not_accepted}
 use Rattle.policy.specs.declared.Policy.{Policy}
-use Rattle.policy.specs.declared.Decoded.{Decoded as Decoded-policy}
-use Rattle.policy.specs.Format.{policy_checks, answer_of, policy_of, decode_of as decode-policy}
+use Rattle.policy.specs.declared.Decoded.{Decoded as DecodedPolicy}
+use Rattle.policy.specs.Format.{policy_checks, answer_of, policy_of, decode_of as decode_policy}
 use Rattle.policy.specs.Proper.{Proper}
 use Rattle.policy.proofs.Laws.{accepted, answered, short}
 use Rattle.policy.specs.ReadPolicy.{Read}
@@ -44,7 +44,7 @@ pub after_list : (xs : List Check) (b : Bool) (r : Refusal) (a : Checked) (v : B
 after_list xs b r a v e f = in_order xs (check b r ∷ []) ∙ ap₂ (λ (c : Checked) (w : Bool). and_then c (first_failed (check w r ∷ []))) e f
 
 -- a check more, of something that was checked: where that was refused, where the check fails and where it passes
-module _ (xs : List Check) (b : Bool) (r : Refusal) (s : List ℕ) (d : Decoded-policy) (k : Checks xs s d) where
+module _ (xs : List Check) (b : Bool) (r : Refusal) (s : List ℕ) (d : DecodedPolicy) (k : Checks xs s d) where
   pub still_refused : (q : Refusal) → d.answer ≡ C.Refused q → Checks (xs ++ (check b r ∷ [])) s d
   still_refused q e = record {
     answer = e ∙ sym (after_list xs b r (C.Refused q) b (sym k.answer ∙ e) refl);
@@ -63,16 +63,16 @@ module _ (xs : List Check) (b : Bool) (r : Refusal) (s : List ℕ) (d : Decoded-
 -- ---- the first checks
 
 -- what the reader hands out
-pub reads : (s : List ℕ) (d : Decoded-policy) → d ≡ decode-policy s → Checks (policy_checks s) s d
+pub reads : (s : List ℕ) (d : DecodedPolicy) → d ≡ decode_policy s → Checks (policy_checks s) s d
 unfolding answer_of
 reads s d e = record { answer = sym (answered s d d.answer e refl); policy = λ f. (read_policy s d e f).same }
 
 -- an accepted policy is in range
-pub read_of : (xs : List Check) (s : List ℕ) (d : Decoded-policy) → Checks xs s d → d.answer ≡ C.Accepted → answer_of s ≡ C.Accepted → Read s d.policy
+pub read_of : (xs : List Check) (s : List ℕ) (d : DecodedPolicy) → Checks xs s d → d.answer ≡ C.Accepted → answer_of s ≡ C.Accepted → Read s d.policy
 read_of xs s d k e f = record { card = f; same = k.policy e; proper = subst Proper (sym (k.policy e)) (accepted s f) }
 
 -- 5, after the reader
-module _ (s : List ℕ) (l : Lengths) (d : Decoded-policy) (r : d ≡ decode-policy s) where
+module _ (s : List ℕ) (l : Lengths) (d : DecodedPolicy) (r : d ≡ decode_policy s) where
   pub sizes_refused : (q : Refusal) → d.answer ≡ C.Refused q → Checks (size_checks s l) s d
   sizes_refused q a = still_refused (policy_checks s) (sizes_fit (policy_of s) l) BufferSize s d (reads s d r) q a
 
@@ -87,7 +87,7 @@ module _ (s : List ℕ) (l : Lengths) (d : Decoded-policy) (r : d ≡ decode-pol
     sizes_fine t = then_passed (policy_checks s) (sizes_fit (policy_of s) l) BufferSize s d (reads s d r) a (fitted true t)
 
 -- what is known where 1 to 5 passed
-module _ (s : List ℕ) (x : State) (d : Decoded-policy) (k : Checks (opening_checks s x) s d) (a : d.answer ≡ C.Accepted) where
+module _ (s : List ℕ) (x : State) (d : DecodedPolicy) (k : Checks (opening_checks s x) s d) (a : d.answer ≡ C.Accepted) where
   passed_sizes : (answer_of s ≡ C.Accepted) × (sized (policy_of s) x ≡ true)
   unfolding answer_of
   passed_sizes = one_more (policy_checks s) (sized (policy_of s) x) BufferSize (sym k.answer ∙ a)
@@ -103,7 +103,7 @@ module _ (s : List ℕ) (x : State) (d : Decoded-policy) (k : Checks (opening_ch
   policy_short = short s passed_sizes.0
 
 -- 12, after 5, and then 6
-module _ (s : List ℕ) (x : State) (d : Decoded-policy) (c : Checks (opening_checks s x) s d) where
+module _ (s : List ℕ) (x : State) (d : DecodedPolicy) (c : Checks (opening_checks s x) s d) where
   abbrev under : Bool
   under = opened_under s x.origin
 
@@ -133,7 +133,7 @@ module _ (s : List ℕ) (x : State) (d : Decoded-policy) (c : Checks (opening_ch
       record_fine t = then_passed (origin_checks s x) clean CorruptKnowledge s d let_past a (tested true t)
 
 -- what is known where all of these passed
-module _ (s : List ℕ) (x : State) (d : Decoded-policy) (k : Checks (record_checks s x) s d) (a : d.answer ≡ C.Accepted) where
+module _ (s : List ℕ) (x : State) (d : DecodedPolicy) (k : Checks (record_checks s x) s d) (a : d.answer ≡ C.Accepted) where
   passed_record : (first_failed (origin_checks s x) ≡ C.Accepted) × (sound (policy_of s).sizes x.known ≡ true)
   passed_record = one_more (origin_checks s x) (sound (policy_of s).sizes x.known) CorruptKnowledge (sym k.answer ∙ a)
 

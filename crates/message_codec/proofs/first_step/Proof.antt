@@ -59,11 +59,11 @@ use Rattle.message_codec.proofs.First.TheLaws as T'
 use Rattle.message.specs.contracts.Step as S
 use Rattle.message.proofs.Step.TheLaws as S'
 use Rattle.message_codec.specs.contracts.read_first as read
-use Rattle.message_codec.proofs.read_first.Symbol as read-def
+use Rattle.message_codec.proofs.read_first.Symbol as read_def
 use Rattle.message_codec.proofs.read_first.Symbol.{name as #message-codec·read-first}
-use Rattle.message_codec.proofs.read_first.Met as read-thm
+use Rattle.message_codec.proofs.read_first.Met as read_thm
 use Rattle.message_codec.specs.contracts.step_of as step
-use Rattle.message_codec.proofs.step_of.Symbol as step-def
+use Rattle.message_codec.proofs.step_of.Symbol as step_def
 use Rattle.message_codec.proofs.step_of.Symbol.{name as #message-codec·step-of}
 use Rattle.message_codec.proofs.step_of.Met as step_thm
 use Rattle.message_codec.specs.contracts.first_step.Key.{name as #message-codec·first-step}
@@ -234,5 +234,5 @@ first-step-spec 𝓤 𝓛 𝓜 𝓡 =
     entered 𝓤 𝓛.H (triple_of 𝓛 first.signature (first.spec 𝓛 𝓜.mem 𝓡.run))
     (tables 𝓤 𝓛.H 𝓜 𝓡 code.env).C (tables 𝓤 𝓛.H 𝓜 𝓡 code.env).Λ #message-codec·first-step code.function (code.unfolded 𝓤 𝓛.H 𝓜 𝓡)
     (first_meets 𝓛 𝓜.mem 𝓡.run (tables_of 𝓤 𝓛.H 𝓜 (tables 𝓤 𝓛.H 𝓜 𝓡 code.env))
-    (cited 𝓤 𝓛.H (Read 𝓛 𝓜.mem 𝓡.run) 𝓜 𝓡 code.env #message-codec·read-first read-def.routine code.calls-message-codec::read-first (read-thm.met 𝓤 𝓛 𝓜 𝓡))
-    (cited 𝓤 𝓛.H (StepOf 𝓛 𝓜.mem 𝓡.run) 𝓜 𝓡 code.env #message-codec·step-of step-def.routine code.calls-message-codec::step-of (step_thm.met 𝓤 𝓛 𝓜 𝓡)))
+    (cited 𝓤 𝓛.H (Read 𝓛 𝓜.mem 𝓡.run) 𝓜 𝓡 code.env #message-codec·read-first read_def.routine code.calls-message-codec::read-first (read_thm.met 𝓤 𝓛 𝓜 𝓡))
+    (cited 𝓤 𝓛.H (StepOf 𝓛 𝓜.mem 𝓡.run) 𝓜 𝓡 code.env #message-codec·step-of step_def.routine code.calls-message-codec::step-of (step_thm.met 𝓤 𝓛 𝓜 𝓡)))

@@ -50,13 +50,13 @@ use Rattle.message_codec.specs.declared.First.{First}
 use Rattle.message_codec.specs.contracts.First as T
 use Rattle.message_codec.proofs.First.TheLaws as T'
 use Rattle.message_codec.specs.contracts.decode as decode
-use Rattle.message_codec.proofs.decode.Symbol as decode-def
+use Rattle.message_codec.proofs.decode.Symbol as decode_def
 use Rattle.message_codec.proofs.decode.Symbol.{name as #message-codec·decode}
-use Rattle.message_codec.proofs.decode.Met as decode-thm
+use Rattle.message_codec.proofs.decode.Met as decode_thm
 use Rattle.message_codec.specs.contracts.rest_of as rest
-use Rattle.message_codec.proofs.rest_of.Symbol as rest-def
+use Rattle.message_codec.proofs.rest_of.Symbol as rest_def
 use Rattle.message_codec.proofs.rest_of.Symbol.{name as #message-codec·rest-of}
-use Rattle.message_codec.proofs.rest_of.Met as rest-thm
+use Rattle.message_codec.proofs.rest_of.Met as rest_thm
 use Rattle.message_codec.specs.contracts.read_first.Key.{name as #message-codec·read-first}
 use Rattle.message_codec.specs.contracts.read_first as read
 use Rattle.message_codec.proofs.read_first.Statement as stated
@@ -191,5 +191,5 @@ read-first-spec 𝓤 𝓛 𝓜 𝓡 =
     entered 𝓤 𝓛.H (triple_of 𝓛 read.signature (read.spec 𝓛 𝓜.mem 𝓡.run))
     (tables 𝓤 𝓛.H 𝓜 𝓡 code.env).C (tables 𝓤 𝓛.H 𝓜 𝓡 code.env).Λ #message-codec·read-first code.function (code.unfolded 𝓤 𝓛.H 𝓜 𝓡)
     (read_meets 𝓛 𝓜.mem 𝓡.run (tables_of 𝓤 𝓛.H 𝓜 (tables 𝓤 𝓛.H 𝓜 𝓡 code.env))
-    (cited 𝓤 𝓛.H (Decode 𝓛 𝓜.mem 𝓡.run) 𝓜 𝓡 code.env #message-codec·decode decode-def.routine code.calls-message-codec::decode (decode-thm.met 𝓤 𝓛 𝓜 𝓡))
-    (cited 𝓤 𝓛.H (Rest 𝓛 𝓜.mem 𝓡.run) 𝓜 𝓡 code.env #message-codec·rest-of rest-def.routine code.calls-message-codec::rest-of (rest-thm.met 𝓤 𝓛 𝓜 𝓡)))
+    (cited 𝓤 𝓛.H (Decode 𝓛 𝓜.mem 𝓡.run) 𝓜 𝓡 code.env #message-codec·decode decode_def.routine code.calls-message-codec::decode (decode_thm.met 𝓤 𝓛 𝓜 𝓡))
+    (cited 𝓤 𝓛.H (Rest 𝓛 𝓜.mem 𝓡.run) 𝓜 𝓡 code.env #message-codec·rest-of rest_def.routine code.calls-message-codec::rest-of (rest_thm.met 𝓤 𝓛 𝓜 𝓡)))

@@ -39,9 +39,9 @@ use Rattle.libc.specs.declared.types.timespec.{timespec}
 use Rattle.libc.proofs.types.timespec as T
 use Rattle.libc.proofs.types.timespec.TheLaws as T'
 use Rattle.libc.proofs.nanosleep as nanosleep
-use Rattle.libc.proofs.nanosleep.Symbol as nanosleep-def
+use Rattle.libc.proofs.nanosleep.Symbol as nanosleep_def
 use Rattle.libc.proofs.nanosleep.Symbol.{name as #libc·nanosleep}
-use Rattle.libc.proofs.nanosleep.Met as nanosleep-thm
+use Rattle.libc.proofs.nanosleep.Met as nanosleep_thm
 use Rattle.release_sheet.specs.contracts.retry.pause.Key.{name as #release-sheet·pause}
 use Rattle.release_sheet.specs.contracts.retry.pause as pause
 use Rattle.release_sheet.proofs.retry.pause.Statement as stated
@@ -167,4 +167,4 @@ pause_spec 𝓤 𝓛 𝓜 𝓡 =
     entered 𝓤 𝓛.H (triple_of 𝓛 pause.signature (pause.spec 𝓛 𝓜.mem 𝓡.run))
     (tables 𝓤 𝓛.H 𝓜 𝓡 code.env).C (tables 𝓤 𝓛.H 𝓜 𝓡 code.env).Λ #release-sheet·pause code.function (code.unfolded 𝓤 𝓛.H 𝓜 𝓡)
     (pause_meets 𝓛 𝓜.mem 𝓡.run (tables_of 𝓤 𝓛.H 𝓜 (tables 𝓤 𝓛.H 𝓜 𝓡 code.env))
-    (cited 𝓤 𝓛.H (Nanosleep 𝓛 𝓜.mem 𝓡.run) 𝓜 𝓡 code.env #libc·nanosleep nanosleep-def.routine code.calls-libc::nanosleep (nanosleep-thm.met 𝓤 𝓛 𝓜 𝓡)))
+    (cited 𝓤 𝓛.H (Nanosleep 𝓛 𝓜.mem 𝓡.run) 𝓜 𝓡 code.env #libc·nanosleep nanosleep_def.routine code.calls-libc::nanosleep (nanosleep_thm.met 𝓤 𝓛 𝓜 𝓡)))
