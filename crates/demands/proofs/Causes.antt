@@ -1,7 +1,7 @@
 -- Each refusal has its own cause. A call is refused as its list of checks says (the law of checks), the policy's checks answer 1 to 4 only, and each
 -- check after them one number: so a number's cause is that the checks before its own pass and its own fails.
 use Rattle.std.specs.Prelude.{ℕ, ◌≤◌, ◌≡◌, Bool, true, false, ◌↔◌, ◌⊎◌, List, [], ◌∷◌, ◌++◌}
-use Rattle.std.proofs.Common.{arith, sym, ap, subst, true≢false}
+use Rattle.std.proofs.Common.{arith, sym, ap, subst, ◌∙◌, true≢false}
 use Rattle.std.proofs.Math.Path.{refl}
 use Rattle.std.proofs.Math.Logic.{inl, inr}
 use Rattle.refusal.specs.declared.Refusal.{Refusal}
@@ -49,14 +49,19 @@ pub at_place : {A B : Type 0} {at n : ℕ} → A ↔ B → (A × (n ≡ n) × (a
 at_place f = (λ q. f.0 q.0, λ b. (f.1 b, refl, refl))
 
 -- the one check of a list
+none_refuses : {q : Refusal} → Refuses [] q → ⊥
+none_refuses q = elim q [ ]
+
+first_fails : {cs : List Check} {q : Refusal} → Refuses cs q → (d : Check) → cs ≡ d ∷ [] → d.passed ≡ false
+first_fails (here {c = c} {cs = cs} e) d f = let same : c ≡ d = cc in ap (λ (x : Check). x.passed) (sym same) ∙ e
+first_fails (there {c = c} {cs = cs} {r = r} e q) d f = let rest : cs ≡ [] = cc in absurd (none_refuses (subst (λ (x : List Check). Refuses x r) rest q))
+
 pub one_fails : (b : Bool) (r : Refusal) → Refuses (check b r ∷ []) r ↔ (b ≡ false)
-one_fails b r = (first, here)
-  where
-    first : Refuses (check b r ∷ []) r → b ≡ false
-    first (here e) = e
+one_fails b r = (λ q. first_fails q (check b r) refl, here)
 
 -- and the number that it answers
 pub one_number : (b : Bool) (r q : Refusal) → Refuses (check b r ∷ []) q → refusal_number q ≡ refusal_number r
+one_number b r q (there _ x8) = elim x8 [ ]
 one_number b r q (here e) = refl
 
 pub one_passes : (b : Bool) (r : Refusal) → AllPassed (check b r ∷ []) ↔ (b ≡ true)
@@ -86,6 +91,7 @@ reply_unless (C.Refused r) x o e = refl
 
 -- the checks of the slip: 7 to 9
 pub slip_number : (s : List ℕ) (x : State) (b : List ℕ) (r : Refusal) → Refuses (slip_checks (policy_of s) x b) r → (7 ≤ refusal_number r) × (refusal_number r ≤ 9)
+slip_number s x b r (there p (there q (there u (there _ x21)))) = elim x21 [ ]
 slip_number s x b r (here e) = omega arith
 slip_number s x b r (there p (here e)) = omega arith
 slip_number s x b r (there p (there q (here e))) = omega arith
@@ -239,6 +245,7 @@ module _ (s : List ℕ) (k : PolicyReaderCauses s) where
       slip = slip_checks (policy_of s) x b
 
       message_number : (r : Refusal) → Refuses (message_checks (sizes_of s) b) r → refusal_number r ≤ 8
+      message_number r (there p (there q (there _ x17))) = elim x17 [ ]
       message_number r (here e) = omega arith
       message_number r (there p (here e)) = omega arith
       message_number r (there p (there q (here e))) = omega arith

@@ -58,6 +58,7 @@ module _ (s verdicts : List ℕ) (rule minute : ℕ) (k : PolicyReaderCauses s) 
 
   -- 5 and 10
   sheet_number : (r : Refusal) → Refuses sheet r → (refusal_number r ≡ 5) ⊎ (refusal_number r ≡ 10)
+  sheet_number r (there p (there _ x12)) = elim x12 [ ]
   sheet_number r (here e) = inl refl
   sheet_number r (there p (here e)) = inr refl
 

@@ -168,6 +168,7 @@ brought_law : (b : List ℕ) (es : List Entry) → Brought b es ↔ Memᴰ (Rece
 brought_law b es = (λ q. there es q.entry q.is_entry q.brings, back es)
   where
     there : (es : List Entry) (e : Entry) → Memᴰ e es → Brings e b → Memᴰ (Receive b) (all_brought es)
+    there [] e x'' q = elim x'' [ ]
     there (d ∷ es) e (Memᴰ.head i) q = Memᴰ.append_left (all_brought es) ((brings_law b d).0 (subst (λ (c : Entry). Brings c b) i q))
     there (d ∷ es) e (Memᴰ.tail h) q = Memᴰ.append_right (brings_of d) (there es e h q)
 

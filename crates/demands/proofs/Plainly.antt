@@ -22,6 +22,8 @@ plain_of : (p : Policy) (w : Trace p.sizes) (r t : ℕ) (a : Truth) (b : Bool) �
     → (b ≡ true) ↔ Holds (time_point p.sizes w) w.value (formula_at p) (rule_line p r) t → Plain p w r t (code_of a)
 plain_of p w r t unknown b open3 n e h = absurd (n refl)
 plain_of p w r t true3 true is_true n e h = kept e (h.0 refl)
+plain_of p w r t true3 false x5 n e h = elim x5 [ ]
+plain_of p w r t false3 true x6 n e h = elim x6 [ ]
 plain_of p w r t false3 false is_false n e h = broken e (λ z. true≢false (sym (h.1 z)))
 
 module _ (p : Policy) (k : Knowledge) (marked : (i t : ℕ) → t < p.sizes.minutes → noted k i t ≡ true → i < p.sizes.propositions) where

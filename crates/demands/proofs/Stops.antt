@@ -27,7 +27,7 @@ use Rattle.monitor.specs.Demands.{Sheets, reply, Passed, StoppedWith, EachTaken,
 use Rattle.monitor.proofs.Leaves.{stops, takes_packet, refuses_packet}
 use Rattle.demands.proofs.Causes.{via, reply_unless, slip_number, passed_record, record_number}
 use Rattle.demands.proofs.Proved.{demand_1, refused, demand_2}
-use Rattle.demands.specs.Walks.{none_left, halted}
+use Rattle.demands.proofs.Walks.{none_left, halted}
 use Rattle.demands.proofs.Walks.{each_before, Rest, walk, walk_taken, walk_state, walk_accepted, passed_each, sheets_each}
 
 -- a byte string of a packet is whole, or it ends early and the packet with it
