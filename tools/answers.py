@@ -327,6 +327,8 @@ def names_in(text):
     for line in text.split("\n"):
         if line.startswith("--"):
             continue
+        if "[]" in line:
+            found.add("[]")
         for w in WORD.findall(line.split(" -- ")[0]):
             found.add(w)
             found.update(w.split("."))
