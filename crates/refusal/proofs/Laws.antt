@@ -60,6 +60,7 @@ in_order (c ∷ cs) ys = go (in_order cs ys) c.passed
     go rest false = refl
 
 pub refused_first : (xs ys : List Check) (r : Refusal) → Refuses xs r → Refuses (xs ++ ys) r
+refused_first [] ys r q = elim q [ ]
 refused_first (c ∷ cs) ys r (here p) = here p
 refused_first (c ∷ cs) ys r (there p q) = there p (refused_first cs ys r q)
 
@@ -85,6 +86,7 @@ passed_parts [] ys q = (none, q)
 passed_parts (c ∷ cs) ys (pass p q) = let r = passed_parts cs ys q in (pass p r.0, r.1)
 
 pub its_number : {cs : List Check} {r : Refusal} → Refuses cs r → numbered cs (refusal_number r) ≡ true
+its_number {cs = []} q = elim q [ ]
 its_number {cs = c ∷ cs} (here p) = rw (eq-eqb (refusal_number c.refusal) (refusal_number c.refusal) refl)
 its_number {cs = c ∷ cs} {r = r} (there p q) = rw (its_number q) (or-true (eqb (refusal_number c.refusal) (refusal_number r)))
 
