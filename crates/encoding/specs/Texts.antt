@@ -1,6 +1,5 @@
 -- The bytes that are written are the layout of their numbers, and where numbers are laid out stand just these bytes. Assumes nothing.
-use Rattle.std.specs.Prelude.{ℕ, ◌-◌, ◌^◌, ◌<◌, List, [], length}
-use Rattle.encoding.specs.Fields.{has}
+use Rattle.std.specs.Prelude.{ℕ, ◌^◌, ◌<◌, List, length}
 use Rattle.encoding.specs.Layout.{width}
 
 -- ---- one number

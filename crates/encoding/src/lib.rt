@@ -1,4 +1,6 @@
 // What the two formats, of policies and of messages, share: the bits of a map, and fields that are written or absent, read and written.
+#![tactic(auto)]
+
 ghost use Rattle.std.specs.Prelude.{◌≡◌, ◌+◌, ◌*◌, ◌/◌, ◌%◌, ◌≤◌, ◌<◌, [], ◌∷◌, length, eqb, cond};
 ghost use Rattle.std.proofs.lemmas.List.Edits.{sets};
 ghost use Rattle.bits.specs.Digits.{gathered};

@@ -1,5 +1,7 @@
 // Lines of hexadecimal, as the programs that print vectors read them: two digits a byte, with a space between bytes, the lower byte of a number
 // first. A byte past a line's end is 0.
+#![tactic(auto)]
+
 ghost use Rattle.std.specs.Prelude.{◌+◌, ◌≤◌, ◌<◌, length};
 
 // The value of a hexadecimal digit.

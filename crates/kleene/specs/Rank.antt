@@ -1,5 +1,5 @@
 -- The order of truth, false < unknown < true: Kleene's or is the greater of two values, and the lesser, not turns the order round.
-use Rattle.std.specs.Prelude.{ℕ, ◌-◌}
+use Rattle.std.specs.Prelude.{ℕ}
 use Rattle.kleene.specs.Truth.{Truth, unknown, true3, false3}
 
 -- a value's place in the order

@@ -1,5 +1,5 @@
 -- A value by two tests, of whether it is true and of whether it is false. Assumes nothing.
-use Rattle.std.specs.Prelude.{Bool, true, false, not, cond, ℕ}
+use Rattle.std.specs.Prelude.{Bool, cond, ℕ}
 use Rattle.kleene.specs.Truth.{Truth, unknown, true3, false3, not3}
 
 -- the code of a value that is known

@@ -1,4 +1,6 @@
 // Kleene's three truth values as codes: 0 unknown, 1 true, 2 false. A code above 2 reads as unknown.
+#![tactic(auto)]
+
 ghost use Rattle.std.specs.Prelude.{◌≡◌, ℕ, ◌<◌, [], get_or};
 ghost use Rattle.kleene.specs.Truth.{code_of, value_of, not3, or3, and3};
 ghost use Rattle.kleene.specs.Rank.{rank_of};

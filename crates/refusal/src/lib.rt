@@ -1,4 +1,6 @@
 // The reasons to turn a call away (01: the table of reasons), each with its number and place.
+#![tactic(auto)]
+
 ghost use Rattle.std.specs.Prelude.{◌≡◌, ◌+◌, ◌<◌, ◌^◌};
 ghost use Rattle.refusal.specs.Numbers.{refusal_number, refusal_place, packet_place};
 
