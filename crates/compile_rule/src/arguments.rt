@@ -4,7 +4,7 @@ ghost use Rattle.compile_rule.specs.Choices.{digit};
 ghost use Rattle.compile_rule.specs.Arguments.{with_digit as more, number as typed};
 
 // How many propositions, components and minutes a policy has; given where each argument was a number.
-#[derive(Drop)]
+#[derive(Clone, Copy)]
 pub struct Sizes {
     pub given: bool,
     pub propositions: usize,
@@ -13,7 +13,7 @@ pub struct Sizes {
 }
 
 // A number that is typed in decimal; not typed where the argument is missing, or is none.
-#[derive(Drop)]
+#[derive(Clone, Copy)]
 struct Typed {
     whole: bool,
     value: usize,

@@ -5,7 +5,7 @@ ghost use Rattle.compile_rule.specs.Begun as S;
 use crate::arguments::is_digit;
 
 // What comes next. Of a word it is the rest, of a number the first digit or a further one.
-#[derive(Drop)]
+#[derive(Clone, Copy)]
 pub enum Expected {
     Term,
     True,
@@ -29,7 +29,7 @@ pub enum Expected {
 
 // How a text has begun. What is left of a word is how many of its bytes are to come. The levels are a 1 and, behind it, a digit in base 2 for
 // each bracket that is open, the innermost last: 0 in its first term, 1 behind it. Brackets may nest to 32, so that they fit.
-#[derive(Drop)]
+#[derive(Clone, Copy)]
 pub struct Beginning {
     pub expected: Expected,
     pub left: u8,

@@ -7,7 +7,7 @@ use crate::beginning;
 use crate::beginning::Expected;
 use crate::reason::byte_at;
 
-#[derive(Drop)]
+#[derive(Clone, Copy)]
 pub enum Excess {
     Mark,
     Bound,

@@ -6,7 +6,7 @@ use crate::arguments::is_digit;
 use crate::beginning;
 use crate::beginning::Expected;
 
-#[derive(Drop)]
+#[derive(Clone, Copy)]
 pub enum Reason {
     Term,
     True,

@@ -5,7 +5,7 @@ pub const NONE: u16 = 65535;
 
 // What reading on from a place, one place after another, found: the place of the first known number and the number itself, or where the
 // reading ended and NONE, and how many places were read.
-#[derive(Drop)]
+#[derive(Clone, Copy)]
 pub struct Found {
     pub place: usize,
     pub number: u16,
@@ -15,7 +15,7 @@ pub struct Found {
 // What a search outwards from a minute finds: whether the minute is quiet for the component (01), the places of the nearest known number
 // before the minute and of the nearest at or after it, these two numbers, and how many places it read. With none before it the first place is
 // the run's start, with none at or after it the second is the run's length, and the number is NONE.
-#[derive(Drop)]
+#[derive(Clone, Copy)]
 pub struct Search {
     pub level: bool,
     pub before: usize,

@@ -2,7 +2,7 @@
 use refusal::Answer;
 
 // What a component reports (01: an observation, or an alive slip), with its minute and its sequence number (01: count).
-#[derive(Drop)]
+#[derive(Clone, Copy)]
 pub enum Event {
     // the propositions (01: marks) that it names, and their values at the same bits
     Observation {
@@ -18,7 +18,7 @@ pub enum Event {
 }
 
 // The answer, and beside it the component (01: station) and its event; a refusal has component 0 and an empty alive.
-#[derive(Drop)]
+#[derive(Clone, Copy)]
 pub struct Decoded {
     pub answer: Answer,
     pub component: usize,
@@ -26,7 +26,7 @@ pub struct Decoded {
 }
 
 // The numbers of a message as its maker has them, of any size (02, request 3).
-#[derive(Drop)]
+#[derive(Clone, Copy)]
 pub struct MessageNumbers {
     pub component: usize,
     // an alive slip, which names nothing, or else an observation
@@ -38,14 +38,14 @@ pub struct MessageNumbers {
 }
 
 // How long the message at the start of some bytes is.
-#[derive(Drop)]
+#[derive(Clone, Copy)]
 pub enum Length {
     Whole(usize),
     EndsEarly,
 }
 
 // The message's bit map and its fields, absent ones as 0, and its value bytes as one number.
-#[derive(Drop)]
+#[derive(Clone, Copy)]
 pub struct Fields {
     pub map: u8,
     pub component: u8,
@@ -56,7 +56,7 @@ pub struct Fields {
 }
 
 // The same as plain data, for callers that hold no reference: what the first message says, and how many bytes follow it.
-#[derive(Drop)]
+#[derive(Clone, Copy)]
 pub struct Step {
     pub decoded: Decoded,
     pub left: usize,

@@ -279,7 +279,7 @@ fn rest_of(packet: &[u8]) -> &[u8]
 }
 
 // What the first message says, and what follows it.
-#[derive(Drop)]
+#[derive(Clone, Copy)]
 pub struct First<'a> {
     pub decoded: Decoded,
     pub rest: &'a [u8],

@@ -3,7 +3,7 @@
 use refusal::Refusal;
 
 // What a call answers: an opening is done; a message is received, and so many verdicts stand; or the call is refused.
-#[derive(Drop)]
+#[derive(Clone, Copy)]
 pub enum Answer {
     Done,
     Received { standing: usize },
@@ -11,14 +11,14 @@ pub enum Answer {
 }
 
 // 01: blank, kept or broken.
-#[derive(Drop)]
+#[derive(Clone, Copy)]
 pub enum Verdict {
     Unknown,
     Satisfied,
     Violated,
 }
 
-#[derive(Drop)]
+#[derive(Clone, Copy)]
 pub enum Look {
     Shows(Verdict),
     Refused(Refusal),
@@ -26,21 +26,21 @@ pub enum Look {
 
 // Where a packet's messages stop being taken: at the packet's end, or at one that is refused, as its take refuses it. The place beside the refusal
 // is the packet's; one inside it (of 7) is counted from the message.
-#[derive(Drop)]
+#[derive(Clone, Copy)]
 pub enum Stop {
     AtEnd,
     Refused { refusal: Refusal, place: usize },
 }
 
 // What a packet is answered: how many of its messages are taken, and why no more.
-#[derive(Drop)]
+#[derive(Clone, Copy)]
 pub struct PacketAnswer {
     pub taken: usize,
     pub stop: Stop,
 }
 
 // How long the lent buffers are.
-#[derive(Drop)]
+#[derive(Clone, Copy)]
 pub struct Lengths {
     pub numbers: usize,
     pub facts: usize,

@@ -28,7 +28,7 @@ const ROOM: usize = 517;
 const TEXT: usize = 3072;
 
 // How many elements of each array are lent.
-#[derive(Drop)]
+#[derive(Clone, Copy)]
 struct Parts {
     numbers: usize,
     facts: usize,

@@ -7,7 +7,7 @@ use refusal::Answer;
 pub const MOST_LINES: usize = 64;
 
 // How many propositions (01: marks), components (01: stations) and minutes a trace has.
-#[derive(Drop)]
+#[derive(Clone, Copy)]
 pub struct Sizes {
     pub propositions: usize,
     pub components: usize,
@@ -15,13 +15,13 @@ pub struct Sizes {
 }
 
 // A line of the card: its meaning, and whether it is a rule.
-#[derive(Drop)]
+#[derive(Clone, Copy)]
 pub struct Subformula {
     pub formula: Formula,
     pub rule: bool,
 }
 
-#[derive(Drop)]
+#[derive(Clone, Copy)]
 pub struct Policy {
     pub sizes: Sizes,
     // how many subformulas there are; the others are padding
@@ -32,14 +32,14 @@ pub struct Policy {
 }
 
 // The answer, and beside it the policy that was read; a refusal has a blank one.
-#[derive(Drop)]
+#[derive(Clone, Copy)]
 pub struct Decoded {
     pub answer: Answer,
     pub policy: Policy,
 }
 
 // A line's bit map and its fields, absent ones as 0.
-#[derive(Drop)]
+#[derive(Clone, Copy)]
 pub struct Fields {
     pub map: u8,
     pub kind: u8,
@@ -50,7 +50,7 @@ pub struct Fields {
 }
 
 // The numbers of a line as its maker has them, of any size, and whether it is a rule (02, request 3).
-#[derive(Drop)]
+#[derive(Clone, Copy)]
 pub struct LineNumbers {
     pub kind: u16,
     pub first: u16,
@@ -61,7 +61,7 @@ pub struct LineNumbers {
 }
 
 // The numbers of a policy as its maker has them.
-#[derive(Drop)]
+#[derive(Clone, Copy)]
 pub struct PolicyNumbers {
     pub propositions: usize,
     pub components: usize,
@@ -72,7 +72,7 @@ pub struct PolicyNumbers {
 }
 
 // What the operands of a kind are.
-#[derive(Drop)]
+#[derive(Clone, Copy)]
 pub enum Operands {
     Nothing,
     Proposition,
@@ -81,7 +81,7 @@ pub enum Operands {
 }
 
 // A row of the table of kinds: the fields that the kind allows besides itself, and what its operands are.
-#[derive(Drop)]
+#[derive(Clone, Copy)]
 pub struct Kind {
     pub first: bool,
     pub second: bool,
@@ -91,7 +91,7 @@ pub struct Kind {
 }
 
 // The lines read: the answer, and where it is Accepted the place after them, how many are rules, and the table.
-#[derive(Drop)]
+#[derive(Clone, Copy)]
 pub struct Scanned {
     pub answer: Answer,
     pub at: usize,

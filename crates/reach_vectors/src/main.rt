@@ -19,7 +19,7 @@ fn least(a: usize, b: usize) -> usize
 // ---- what is read
 
 // The length of the lent buffer, and the place behind it and the space that follows it.
-#[derive(Drop)]
+#[derive(Clone, Copy)]
 struct Room {
     size: usize,
     next: usize,

@@ -5,7 +5,7 @@ ghost use Rattle.std.specs.Prelude.{◌≡◌, ◌+◌, ◌<◌, ◌^◌};
 ghost use Rattle.refusal.specs.Numbers.{refusal_number, refusal_place, packet_place};
 
 // A place stands beside each reason that has one; the others have place 0.
-#[derive(Drop)]
+#[derive(Clone, Copy)]
 pub enum Refusal {
     // 1, cut card
     TruncatedPolicy(usize),
@@ -38,14 +38,14 @@ pub enum Refusal {
 }
 
 // What a check answers, or a call's checks one after another: they let it pass, or the first that fails refuses it.
-#[derive(Drop)]
+#[derive(Clone, Copy)]
 pub enum Answer {
     Accepted,
     Refused(Refusal),
 }
 
 // What a call that writes a text answers: how long the text is, or why nothing was written.
-#[derive(Drop)]
+#[derive(Clone, Copy)]
 pub enum Written {
     Length(usize),
     Refused(Refusal),

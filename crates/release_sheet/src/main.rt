@@ -19,7 +19,7 @@ use refusal::Refusal;
 const LONGEST_POLICY: usize = 517;
 
 // How much of each array the policy needs.
-#[derive(Drop)]
+#[derive(Clone, Copy)]
 struct Parts {
     numbers: usize,
     facts: usize,
@@ -30,7 +30,7 @@ struct Parts {
 }
 
 // How many messages were received and how many refused.
-#[derive(Drop)]
+#[derive(Clone, Copy)]
 struct Tally {
     taken: u64,
     refused: u64,

@@ -6,7 +6,7 @@ use crate::{report, retry};
 use refusal::Refusal;
 
 // Where in the buffer the next line goes, and whether all that went before has reached standard output or is in the buffer.
-#[derive(Drop)]
+#[derive(Clone, Copy)]
 pub struct Page {
     pub at: usize,
     pub whole: bool,

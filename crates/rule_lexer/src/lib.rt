@@ -35,7 +35,7 @@ const REST_OF_UNTIL: [u8; 4] = *b"ntil";
 
 // Where the digits of a number end (where it should start, if there are none), and the number: below 1,024 as it is, else some number from there
 // up to it.
-#[derive(Drop)]
+#[derive(Clone, Copy)]
 pub struct Numeral {
     pub end: usize,
     pub value: usize,

@@ -2,21 +2,21 @@
 use refusal::Refusal;
 
 // The two ends of an interval, and the place behind its "]".
-#[derive(Drop)]
+#[derive(Clone, Copy)]
 pub struct Bounds {
     pub at: usize,
     pub lower: usize,
     pub upper: usize,
 }
 
-#[derive(Drop)]
+#[derive(Clone, Copy)]
 pub enum Interval {
     Read(Bounds),
     Refused(Refusal),
 }
 
 // What joins the two terms of a group, as a line's kind and interval, and the place where the second one is due.
-#[derive(Drop)]
+#[derive(Clone, Copy)]
 pub struct Joint {
     pub at: usize,
     pub kind: u16,
@@ -24,33 +24,33 @@ pub struct Joint {
     pub upper: u16,
 }
 
-#[derive(Drop)]
+#[derive(Clone, Copy)]
 pub enum Word {
     Read(Joint),
     Refused(Refusal),
 }
 
 // How many "not" stand before a term, and where the term is due.
-#[derive(Drop)]
+#[derive(Clone, Copy)]
 pub struct Run {
     pub at: usize,
     pub count: usize,
 }
 
-#[derive(Drop)]
+#[derive(Clone, Copy)]
 pub enum Nots {
     Read(Run),
     Refused(Refusal),
 }
 
 // The place behind a term, and how many lines there are then; its own is the last.
-#[derive(Drop)]
+#[derive(Clone, Copy)]
 pub struct Cursor {
     pub at: usize,
     pub lines: usize,
 }
 
-#[derive(Drop)]
+#[derive(Clone, Copy)]
 pub enum Step {
     Read(Cursor),
     Refused(Refusal),

@@ -4,7 +4,7 @@
 pub const MOST_MINUTES: usize = 1024;
 
 // The nearest minute at which a truth is surely so, and at which it may be so.
-#[derive(Drop)]
+#[derive(Clone, Copy)]
 pub struct Nearest {
     pub sure: usize,
     pub may: usize,

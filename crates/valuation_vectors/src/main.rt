@@ -164,7 +164,7 @@ fn fact_at(facts: &[u32], place: u32, t: usize) -> u8
 // ---- random policies
 
 // A line of the card. Kind 1 has its mark in first.
-#[derive(Drop)]
+#[derive(Clone, Copy)]
 struct Line {
     kind: usize,
     first: usize,

@@ -1,0 +1,33 @@
+-- `counter_runs::search_outwards` meets its contract: `Searching` puts together what reading back and reading forth find. Assumes nothing.
+use mathlib.Core.Path.{sym, subst}
+use Prim.Native.Nat.{ℕ, ◌+◌}
+use native.Mathlib.Omega.{arith}
+use Rattle.knowledge.specs.Run.{cell, Forth}
+use Rattle.counter_runs.proofs.Searching.{outwards}
+use Rattle.counter_runs.proofs.search_outwards.Goals as goal
+
+pub overflow_add-reads : goal.overflow_add-reads
+overflow_add-reads c =
+    let s = c.requires in
+    let b = c.previous_known-back.ensures.reads in
+    let f = c.next_known.ensures.reads in
+    omega arith
+
+pub returns : goal.returns
+returns c m e =
+    let x = c.args in
+    let back = c.previous_known-back in
+    let forth = c.next_known in
+    let f = cell x.run.now in
+    let found =
+    outwards f m x.minute back.result forth.result (omega arith) back.ensures
+    (subst (λ (n : ℕ). Forth f n (x.minute + 1) forth.result) (sym e) forth.ensures) in
+    record {
+      answer = found.answer;
+      full_answer = found.full_answer;
+      before = found.before;
+      after = found.after;
+      earlier = found.earlier;
+      later = found.later;
+      reads = found.reads;
+    }
