@@ -1,9 +1,9 @@
 -- What a line's tests say, kind by kind. Assumes nothing.
 use mathlib.Core.Path.{◌≡◌, sym, ap, ◌∙◌}
-use mathlib.Core.Bool.{Bool, true, false, not, ◌&&◌}
+use mathlib.Core.Bool.{Bool, true, false, ◌&&◌}
 use Prim.Native.Nat.{ℕ, ◌+◌, ◌-◌, ◌≤◌, ◌<◌}
 use native.Mathlib.Omega.{arith}
-use borrow.Author.Tests.{not-true, not-false, lt-leb, le-leb}
+use borrow.Author.Tests.{lt-leb, le-leb}
 use native.Mathlib.Decide.{dec_le}
 use Rattle.mtl.specs.declared.Formula.TheVariants as F
 use lib.Dec.{leb}
@@ -19,12 +19,12 @@ fits at n length h = go (dec_le (at + n) length)
     go (yes p) = le-leb n (length - at) (omega arith) ∙ sym (le-leb (at + n) length p)
     go (no p) = lt-leb n (length - at) (omega arith) ∙ sym (lt-leb (at + n) length (omega arith))
 
--- what a call answers, where its negation was tested
-pub held : {r b : Bool} → r ≡ b → not r ≡ false → b ≡ true
-held e f = sym e ∙ not-false _ f
+-- what a call answers, where it was tested
+pub held : {r b : Bool} → r ≡ b → r ≡ true → b ≡ true
+held e f = sym e ∙ f
 
-pub failed : {r b : Bool} → r ≡ b → not r ≡ true → b ≡ false
-failed e f = sym e ∙ not-true _ f
+pub failed : {r b : Bool} → r ≡ b → r ≡ false → b ≡ false
+failed e f = sym e ∙ f
 
 pub both : {a b c d : Bool} → a ≡ b → c ≡ d → (a && c) ≡ (b && d)
 both p q = rw (p, q)
