@@ -37,7 +37,8 @@ SIGNATURE = re.compile(r"((?:abbrev |unfoldable |pub )*)([^\s:(){}]+) : ?")
 
 def plain(name):
     """An old name without what the spellings differ in."""
-    return re.sub(r"^(overflow|nonzero|bounds|index)-", "", name.replace("_", "-"))
+    name = re.sub(r"^(overflow|nonzero)-", "", name.replace("_", "-").lower())
+    return re.sub(r"^slice-bounds-", "part-", re.sub(r"^bounds-", "index-", name))
 
 
 # --- reading a walk ---
@@ -380,6 +381,16 @@ def convert(crate, f, text, names):
     module = "Rattle.%s.proofs.%s" % (crate, f.replace("/", "."))
     uses = [u for u in uses if not re.search(r"%s\.(Statement|Tie)\b" % re.escape(module), u)]
     left, gone, invariants, answers, local = [], [], [], [], []
+    # the order of the needs, where a label has another name now
+    order = []
+    for d in decls:
+        spec = re.search(r"\(tie\.spec\s(.*)\)\s*$", d.text(), re.S)
+        if spec:
+            order = [w for w in spec[1].split() if not re.match(r"(invariant|decreases)_", w)]
+    by_order = {}
+    if len(order) == len(names["needs"]):
+        for label, (_, new), (place, _) in zip(order, names["needs"], names["asked_at"]):
+            by_order[label] = (new, walk.at.get(place))
     for d in decls:
         need = re.search(r"tie\.Need-(\S+)", d.type)
         chosen = re.match(r"[^:]*: tie\.(invariant|decreases)_(\S+)", d.type)
@@ -391,6 +402,10 @@ def convert(crate, f, text, names):
             if SEARCHES.fullmatch(term.strip()):
                 continue
             got = walk.needs.get(plain(need[1]))
+            placed = by_order.get(d.name)
+            if got and placed and got != placed:
+                left.append("%s: by its place it would be %s" % (got[0], placed[0]))
+            got = got or placed
             if got is None:
                 gone.append("%s: %s" % (need[1], " ".join(term.split())))
                 continue
