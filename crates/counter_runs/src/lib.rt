@@ -1,4 +1,6 @@
 // A component's run of sequence numbers (01: counts): the nearest known ones, whether it is steady, and which numbers may be stored.
+#![tactic(auto)]
+
 ghost use Rattle.std.specs.Prelude.{◌≡◌, ℕ, suc, ◌+◌, ◌-◌, ◌*◌, ◌≤◌, ◌<◌, true, false, not, length};
 ghost use Rattle.mtl.specs.Algebra.{two, all};
 ghost use Rattle.knowledge.specs.Knowledge.{most_minutes, run_of, Steady, follow, steady};

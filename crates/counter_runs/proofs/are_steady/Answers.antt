@@ -1,8 +1,6 @@
 -- `counter_runs::are_steady` meets its contract. The loop's invariant: the first c runs are steady, and the next starts at `at`. The
 -- measure is how many components are left. Assumes nothing.
-use borrow.Author.Tests.{not-true, not-false}
 use mathlib.Core.Path.{◌≡◌, refl, sym, ap, ◌∙◌}
-use mathlib.Core.Bool.{true}
 use Prim.Native.Nat.{ℕ, suc}
 use native.Mathlib.Omega.{arith}
 use Rattle.mtl.specs.Algebra.{two, all}
@@ -46,7 +44,7 @@ returns-then-not-is_steady c =
     let x = c.args in
     sym
     (each_fails x.components (λ i. steady (run_of x.numbers.now x.minutes i) (suc x.minutes)) c.loop-c.c (omega arith)
-    (sym (part_steady x.numbers.now x.minutes x.components c.loop-c.c c.loop-c.at c.requires.1 (omega arith) c.loop-c.invariant.1) ∙ sym f.ensures ∙ not-true f.result c.if-not-is_steady.true))
+    (sym (part_steady x.numbers.now x.minutes x.components c.loop-c.c c.loop-c.at c.requires.1 (omega arith) c.loop-c.invariant.1) ∙ sym f.ensures ∙ c.if-not-is_steady.true))
 
 pub overflow_add-c : goal.overflow_add-c
 overflow_add-c c = omega arith
@@ -61,7 +59,7 @@ loop-c-preserved c =
       omega arith,
       omega (arith, one_run c.loop-c.c (suc x.minutes)),
       each_more c.loop-c.c (λ i. steady (run_of x.numbers.now x.minutes i) (suc x.minutes)) c.loop-c.invariant.2
-          (sym (part_steady x.numbers.now x.minutes x.components c.loop-c.c c.loop-c.at c.requires.1 (omega arith) c.loop-c.invariant.1) ∙ sym f.ensures ∙ not-false f.result c.if-not-is_steady.false),
+          (sym (part_steady x.numbers.now x.minutes x.components c.loop-c.c c.loop-c.at c.requires.1 (omega arith) c.loop-c.invariant.1) ∙ sym f.ensures ∙ c.if-not-is_steady.false),
     )
 
 pub returns : goal.returns

@@ -1,6 +1,5 @@
 -- `counter_runs::is_steady` meets its contract. The loop's invariant: the run is steady up to p, which is a known place with the number v, or p is the
 -- run's end and all of it is steady. The measure is what is left of the run. Assumes nothing.
-use borrow.Author.Tests.{not-true, not-false}
 use mathlib.Core.Path.{◌≡◌, sym, subst, ◌∙◌}
 use mathlib.Core.Bool.{true, false}
 use Prim.Native.Nat.{ℕ, ◌-◌}
@@ -37,7 +36,7 @@ pub next_known-found-requires : goal.next_known-found-requires
 next_known-found-requires c = omega arith
 
 pub overflow_sub-q : goal.overflow_sub-q
-overflow_sub-q c = omega (arith, c.next_known.ensures.place.past)
+overflow_sub-q c = omega (arith, c.next_known-found.ensures.place.past)
 
 pub follows-requires : goal.follows-requires
 follows-requires c = omega arith
@@ -47,12 +46,12 @@ returns-then-not-follows c =
     let run = c.args.run.now in
     let f = cell run in
     let l = c.loop-p in
-    let r = c.next_known in
+    let r = c.next_known-found in
     let g = c.follows in
     let p = l.p in
     let q = r.result.place in
     let here = l.invariant.1 (omega arith) in
-    let no : g.result ≡ false = not-true g.result c.if-not-follows.true in
+    let no : g.result ≡ false = c.if-not-follows.true in
     let bad : Follow l.v r.result.number (q - p) → ⊥ = fails (follow_decides l.v r.result.number (q - p)) (sym g.ensures ∙ no) in
     let there = r.ensures.number c.if-q-run.true in
     sym
@@ -61,20 +60,20 @@ returns-then-not-follows c =
     (λ w. bad (subst (λ (x : ℕ). Follow x r.result.number (q - p)) (sym here.0) (subst (λ (y : ℕ). Follow (f p) y (q - p)) (sym there) w)))))
 
 pub loop-p-smaller-else-not-follows : goal.loop-p-smaller-else-not-follows
-loop-p-smaller-else-not-follows c = let past = c.next_known.ensures.place.past in omega arith
+loop-p-smaller-else-not-follows c = let past = c.next_known-found.ensures.place.past in omega arith
 
 pub loop-p-preserved-else-not-follows : goal.loop-p-preserved-else-not-follows
 loop-p-preserved-else-not-follows c =
     let run = c.args.run.now in
     let f = cell run in
     let l = c.loop-p in
-    let r = c.next_known in
+    let r = c.next_known-found in
     let g = c.follows in
     let p = l.p in
     let q = r.result.place in
     let here = l.invariant.1 (omega arith) in
     let there = r.ensures.number c.if-q-run.true in
-    let so : g.result ≡ true = not-false g.result c.if-not-follows.false in
+    let so : g.result ≡ true = c.if-not-follows.false in
     let near = (follow_decides l.v r.result.number (q - p)).sound (sym g.ensures ∙ so) in
     let nigh = subst (λ (y : ℕ). Follow (f p) y (q - p)) there (subst (λ (x : ℕ). Follow x r.result.number (q - p)) here.0 near) in (
       r.ensures.place.within,
@@ -83,13 +82,13 @@ loop-p-preserved-else-not-follows c =
     )
 
 pub loop-p-smaller : goal.loop-p-smaller
-loop-p-smaller c = let past = c.next_known.ensures.place.past in omega arith
+loop-p-smaller c = let past = c.next_known-found.ensures.place.past in omega arith
 
 pub loop-p-preserved : goal.loop-p-preserved
 loop-p-preserved c =
     let run = c.args.run.now in
     let l = c.loop-p in
-    let r = c.next_known in
+    let r = c.next_known-found in
     let within = r.ensures.place.within in
     let here = l.invariant.1 (omega arith) in (
       within,

@@ -1,6 +1,5 @@
 -- `counter_runs::may_store` meets its contract: a known number is its own answer, and for a place that was not known `Putting` has each return.
 -- Assumes nothing.
-use borrow.Author.Tests.{not-true, not-false}
 use mathlib.Core.Path.{◌≡◌, sym, ap, subst, ◌∙◌}
 use mathlib.Core.Bool.{true, false}
 use Prim.Native.Nat.{ℕ, ◌-◌, ◌≤◌, ◌<◌}
@@ -64,7 +63,7 @@ returns-then-not-follows c =
     let f = cell run in
     let small : x.v < none = omega arith in
     let P = found_before f x.place p.result c.requires.1.first p.ensures in
-    let no : g.result ≡ false = not-true g.result c.if-not-follows.true in
+    let no : g.result ≡ false = c.if-not-follows.true in
     sym
     (is_false (may_decides f (length run) x.place x.v)
     (λ A. fails (follow_decides (f p.result.place) x.v (x.place - p.result.place)) (sym (g.ensures ∙ follow_from x.v _ P.1) ∙ no)
@@ -72,7 +71,7 @@ returns-then-not-follows c =
 
 pub returns-then-q-run : goal.returns-then-q-run
 returns-then-q-run c =
-    let q = c.next_known in
+    let q = c.next_known-q in
     let g = c.follows in
     let p = c.previous_known-p in
     let x = c.args in
@@ -80,7 +79,7 @@ returns-then-q-run c =
     let f = cell run in
     let small : x.v < none = omega (arith, c.if-v-eq-NONE.false) in
     let P = found_before f x.place p.result c.requires.1.first p.ensures in
-    let so : g.result ≡ true = not-false g.result c.if-not-follows.false in
+    let so : g.result ≡ true = c.if-not-follows.false in
     let below = (follow_decides (f p.result.place) x.v (x.place - p.result.place)).sound (sym (g.ensures ∙ follow_from x.v _ P.1) ∙ so) in
     let there : q.result.place < length run = c.if-q-run.true in
     let hidden : none ≤ f x.place = c.if-here-lt-NONE.false in
@@ -98,7 +97,7 @@ returns-then-q-run c =
 
 pub returns : goal.returns
 returns c =
-    let q = c.next_known in
+    let q = c.next_known-q in
     let g = c.follows in
     let p = c.previous_known-p in
     let x = c.args in
@@ -106,7 +105,7 @@ returns c =
     let f = cell run in
     let small : x.v < none = omega (arith, c.if-v-eq-NONE.false) in
     let P = found_before f x.place p.result c.requires.1.first p.ensures in
-    let so : g.result ≡ true = not-false g.result c.if-not-follows.false in
+    let so : g.result ≡ true = c.if-not-follows.false in
     let below = (follow_decides (f p.result.place) x.v (x.place - p.result.place)).sound (sym (g.ensures ∙ follow_from x.v _ P.1) ∙ so) in
     let hidden : none ≤ f x.place = c.if-here-lt-NONE.false in
     sym

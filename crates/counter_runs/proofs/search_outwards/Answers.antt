@@ -10,14 +10,14 @@ pub overflow_add-reads : goal.overflow_add-reads
 overflow_add-reads c =
     let s = c.requires in
     let b = c.previous_known-back.ensures.reads in
-    let f = c.next_known.ensures.reads in
+    let f = c.next_known-forth.ensures.reads in
     omega arith
 
 pub returns : goal.returns
 returns c m e =
     let x = c.args in
     let back = c.previous_known-back in
-    let forth = c.next_known in
+    let forth = c.next_known-forth in
     let f = cell x.run.now in
     let found =
     outwards f m x.minute back.result forth.result (omega arith) back.ensures
