@@ -1,4 +1,6 @@
 // The answers of the calls as C and Rust are given them: a number, 0 where the call is not refused and else the refusal's, and a detail.
+#![tactic(auto)]
+
 ghost use Rattle.std.specs.Prelude.{◌≡◌};
 ghost use Rattle.monitor.specs.Lookup.{verdict_code};
 ghost use Rattle.c_answers.specs.Returned.{number_of, detail_of, stop_number, stop_place, look_number, look_detail, written_number, written_detail};

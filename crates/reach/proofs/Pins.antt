@@ -1,5 +1,5 @@
 -- Laws of the definitions in specs/Pins. Assumes nothing.
-use Rattle.std.specs.Prelude.{refl, []}
+use Rattle.std.specs.Prelude.{refl}
 use Rattle.mtl.specs.Reading.{since, until, deep, reading}
 use Rattle.reach.specs.Reach.{reach_deep, reach}
 use Rattle.reach.specs.Pins.{Pins}

@@ -2,9 +2,9 @@
 -- which its reach stays below the end. By induction on the line: a since looks back, where everything is known; an until looks at most upper minutes ahead,
 -- and its operands from there. What a line is at other minutes counts for nothing, since e lets only time points through.
 use Rattle.std.specs.Prelude.{ℕ, ◌<◌, ◌≡◌, true}
-use Rattle.kleene.specs.Truth.{Truth, unknown, true3, false3}
+use Rattle.kleene.specs.Truth.{Truth, true3, false3}
 use Rattle.mtl.specs.Abbreviations.{Expression, operand, true', proposition', not', binary}
-use Rattle.mtl.specs.Reading.{World, seen, point}
+use Rattle.mtl.specs.Reading.{World}
 
 -- the value is not unknown
 pub data Decided : Truth → Type 0 where

@@ -1,7 +1,6 @@
 -- The reach of a line is made of those of earlier lines, is that of its abbreviation, and stays in 16 bits. Assumes nothing.
 use Prim.Native.Nat.{ℕ, ◌+◌, max}
 use Rattle.mtl.specs.Abbreviations.{Binary, either, back, ahead, Expression, operand, true', proposition', not', binary}
-use Rattle.reach.specs.Reach.{reach}
 
 -- ---- the reach of an expression: of the six kinds of 01 only until looks ahead
 

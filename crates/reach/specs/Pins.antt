@@ -5,7 +5,7 @@ use Rattle.kleene.specs.Truth.{Truth, unknown, true3, false3}
 use Rattle.mtl.specs.declared.Formula.{Formula}
 use Rattle.mtl.specs.declared.Formula.TheVariants.{True, Proposition, Not, Or, Since, Until, And, Implies, Once, Historically, Eventually, Always}
 use Rattle.mtl.specs.Algebra.{three}
-use Rattle.mtl.specs.Reading.{World, since, until, reading}
+use Rattle.mtl.specs.Reading.{World, reading}
 use Rattle.reach.specs.Reach.{reach}
 
 -- lines 0 true, 1 a proposition, 2 to 4 with reaches 3, 5 and 5, 5 the one that is asked for

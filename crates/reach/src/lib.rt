@@ -1,5 +1,7 @@
 // The reach of a policy's rules (02, request 8): how many minutes past a minute the verdict there may rest on. So a trace that is known whole leaves no
 // blank at a time point from which the reach stays below its end.
+#![tactic(auto)]
+
 ghost use Rattle.std.specs.Prelude.{◌≡◌, ◌++◌, ℕ, ◌≤◌, ◌<◌, max, length, get_or, drop};
 ghost use Rattle.refusal.specs.Writes.{Output};
 ghost use Rattle.policy.specs.Proper.{Proper, formula_at};
