@@ -1,4 +1,6 @@
 // The call that looks up a verdict (01: a look).
+#![tactic(auto)]
+
 ghost use Rattle.std.specs.Prelude.{◌≡◌};
 ghost use Rattle.policy.specs.Proper.{Proper};
 ghost use Rattle.monitor.specs.Lookup.{verdict_of, look_at, lookup_of};
