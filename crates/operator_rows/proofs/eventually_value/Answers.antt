@@ -1,20 +1,12 @@
 -- `operator_rows::eventually_value` meets its contract: the value is known by the two thresholds that it reaches. Assumes nothing.
 use native.Mathlib.Omega.{arith}
-use borrow.Author.Rules.{rules}
 use Rattle.mtl.specs.Algebra.{three}
 use Rattle.mtl.specs.Reading.{until}
 use Rattle.operator_rows.proofs.Spans.{eventually_test}
-use Rattle.operator_rows.proofs.eventually_value.Statement.{statement}
-use Rattle.operator_rows.proofs.eventually_value.Tie as tie
+use Rattle.operator_rows.proofs.eventually_value.Goals as goal
 
-signed-code-requires : tie.Need-signed-code-requires
-signed-code-requires c κs = search rules
-
-returns : tie.Need-returns
+pub returns : goal.returns
 returns c w τ β lower upper t m s near A held dark =
-    c.signed-code.ensures (until three w τ β lower upper t)
+    c.signed_code.ensures (until three w τ β lower upper t)
     (eventually_test w τ β 2 (omega arith) (omega arith) lower upper t _ 0 m held dark _ s near A.sure)
     (eventually_test w τ β 1 (omega arith) (omega arith) lower upper t _ 0 m held dark _ s near A.may)
-
-pub eventually-value-spec : {M : Type 1} → statement M
-eventually-value-spec = tie.close (tie.spec signed-code-requires returns)
