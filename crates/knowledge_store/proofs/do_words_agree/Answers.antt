@@ -2,13 +2,9 @@
 -- Assumes nothing.
 use native.Mathlib.Omega.{arith}
 use Rattle.knowledge_store.proofs.Words.{words_mask}
-use Rattle.knowledge_store.proofs.do_words_agree.Statement.{statement}
-use Rattle.knowledge_store.proofs.do_words_agree.Tie as tie
+use Rattle.knowledge_store.proofs.do_words_agree.Goals as goal
 
-returns : tie.Need-returns
+pub returns : goal.returns
 returns c =
     let x = c.args in
     words_mask x.known x.old x.named x.values (omega arith) (omega arith) (omega arith) (omega arith)
-
-pub do-words-agree-spec : {M : Type 1} → statement M
-do-words-agree-spec = tie.close (tie.spec returns)
