@@ -1,4 +1,6 @@
 // The valuation (01: the work sheet), worked row by row, each into an array of its own, and the verdicts (01: the verdict sheet).
+#![tactic(auto)]
+
 ghost use Rattle.std.specs.Prelude.{◌≡◌, ◌++◌, ℕ, ◌+◌, ◌-◌, ◌*◌, ◌≤◌, ◌<◌, length, get_or, take, drop};
 ghost use Rattle.kleene.specs.Truth.{Truth};
 ghost use Rattle.rows.specs.Over.{Over};

@@ -1,4 +1,6 @@
 // The knowledge (01: the record): a fresh one, whether it is sound, whether it admits a message, what it holds after, and its time points.
+#![tactic(auto)]
+
 ghost use Rattle.std.specs.Prelude.{◌≡◌, ℕ, suc, ◌+◌, ◌-◌, ◌*◌, ◌%◌, ◌^◌, ◌≤◌, ◌<◌, min, true, false, not, cond, ◌&&◌, eqb, length, get_or, set, replicate};
 ghost use Rattle.std.specs.Int.Bits.{bit_or};
 ghost use Rattle.kleene.specs.Truth.{unknown, true3, false3, code_of, value_of, or3};

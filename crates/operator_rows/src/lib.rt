@@ -1,4 +1,6 @@
 // A row: the truth of one subformula at every minute, worked from the rows of those that it names, a constant time a minute whatever the interval.
+#![tactic(auto)]
+
 ghost use Rattle.std.specs.Prelude.{◌≡◌, ℕ, ◌+◌, ◌-◌, ◌*◌, ◌≤◌, ◌<◌, length, get_or, leb};
 ghost use Rattle.kleene.specs.Truth.{Truth, code_of, unknown, true3, not3, or3, and3};
 ghost use Rattle.kleene.specs.Rank.{rank_of};
