@@ -1,4 +1,6 @@
 // What the calls check first: the policy, the lent buffers and the record.
+#![tactic(auto)]
+
 ghost use Rattle.std.specs.Prelude.{◌≡◌};
 ghost use Rattle.policy.specs.Proper.{Proper};
 ghost use Rattle.origin.specs.Origin.{stamped};
