@@ -1,6 +1,8 @@
 // Makes a policy of one rule that is typed as text (02, request 7). The arguments say how many marks, stations and minutes there are; standard
 // input holds the text, with or without a newline at its end. Standard output has the policy's bytes, or nothing where the text is refused;
 // standard error tells why.
+#![tactic(auto)]
+
 mod arguments;
 mod beginning;
 mod excess;

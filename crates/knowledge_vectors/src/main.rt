@@ -6,6 +6,8 @@
 // the sequence numbers (2 bytes each). Printed are the answer (quiet, busy or open), the places of the nearest known numbers before the minute
 // and at or after it (- where there is none at or after it), and how many places were read.
 // A line that starts with '#' says what the next ones are, and is printed as it is.
+#![tactic(auto)]
+
 ghost use Rattle.std.specs.Prelude.{suc, ◌+◌, ◌*◌, ◌≤◌, ◌<◌, ◌≡◌, length};
 ghost use Rattle.message.specs.Fixes.{Fits};
 ghost use Rattle.knowledge.specs.Knowledge.{Sized, Sound};

@@ -3,6 +3,8 @@
 // A line is a vector, in hexadecimal with a space between bytes: propositions, components, minutes (2 bytes), then the packet whose first
 // message is read, of at most 64 bytes.
 // A line that starts with '#' says what the next ones are, and is printed as it is.
+#![tactic(auto)]
+
 use message::{Decoded, Event, Step};
 use policy::Sizes;
 use refusal::{Answer, Refusal};

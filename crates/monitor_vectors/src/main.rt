@@ -1,10 +1,11 @@
 // Every case of 01's small shift, and one of each reason to turn a call away, run through open, receive and receive_packet. It prints each
 // call's answer, and then the state that the call left, or that it is unchanged.
+#![tactic(auto)]
+
 mod text;
 
 ghost use Rattle.std.specs.Prelude.{◌≤◌, ◌<◌, length};
 
-use libc::STDOUT_FILENO;
 use monitor::{Answer, PacketAnswer, Stop};
 use refusal::Refusal;
 
@@ -23,6 +24,9 @@ const PACKET: u8 = 128;
 
 // How many bytes the origin has.
 const ROOM: usize = 517;
+
+// Standard output's descriptor.
+const STDOUT_FILENO: i32 = 1;
 
 // Room for the text of a state, whatever it holds.
 const TEXT: usize = 3072;

@@ -6,10 +6,13 @@ fn put(text: &mut [u8], at: usize, word: &[u8]) -> usize
     requires { at ≤ length text.old }
     ensures { result ≤ length text.old }
 {
-    if text.len() - at < word.len() {
+    let n = word.len();
+    if text.len() - at < n {
         return at;
     }
-    at + bytes::copy(word, &mut text[at..])
+    let end = at + n;
+    text[at..end].copy_from_slice(word);
+    end
 }
 
 // Puts a space and a number's digits.

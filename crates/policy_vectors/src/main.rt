@@ -1,5 +1,7 @@
 // Prints the reader's answer for policies (01: cards) at the edges of the format: accepted with propositions, components, minutes,
 // lines and rules, or refused with number and place.
+#![tactic(auto)]
+
 ghost use Rattle.std.specs.Prelude.{◌≡◌, ◌+◌, ◌≤◌, ◌<◌, length};
 
 use policy::Policy;

@@ -5,6 +5,8 @@
 // Printed after it are how many reaches were written, and each of them, or why there are none; and then whether the rest of the lent buffer, all
 // of it where there are none, is as it was before.
 // A line that starts with '#' says what the next ones are, and is printed as it is.
+#![tactic(auto)]
+
 ghost use Rattle.std.specs.Prelude.{◌≡◌, ℕ, ◌≤◌, ◌<◌, length, get_or};
 
 use refusal::{Refusal, Written};

@@ -1,5 +1,7 @@
 // Prints the verdicts of a trace (01: the printing program). Standard input holds the policy's length in two bytes, the policy, and then
 // messages, each after one length byte, to the end; a piece that the end cuts is offered as it is.
+#![tactic(auto)]
+
 mod input;
 mod output;
 mod report;

@@ -4,6 +4,8 @@
 // has 510), every byte of which is EE before; and then the text, all four numbers in decimal and a space behind each.
 // Printed after it is the policy in hexadecimal, or why there is none.
 // A line that starts with '#' says what the next ones are, and is printed as it is.
+#![tactic(auto)]
+
 ghost use Rattle.std.specs.Prelude.{◌≤◌, ◌<◌, length};
 
 use refusal::{Refusal, Written};

@@ -1,6 +1,8 @@
 // Rows of the kinds of request 6 (02) that were worked out by hand. Then rows of random policies over random knowledge, worked by `valuation` in one
 // pass and, beside it, straight from the definition (01, "The reading", and 02's abbreviations), with windows of 0, 1, M - 1 and 1,023
 // minutes among the bounds. It prints for each batch how many cells differ.
+#![tactic(auto)]
+
 ghost use Rattle.std.specs.Prelude.{◌≡◌, ◌+◌, ◌*◌, ◌≤◌, ◌<◌, length};
 
 // ---- the definition, with truth as a rank: false 0, unknown 1, true 2

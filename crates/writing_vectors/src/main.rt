@@ -9,6 +9,8 @@
 // Printed after it are the answer and the lent buffer. Where an event can hold a message's numbers, the writer of events is asked too, with a
 // buffer of its own, and both are printed after the word event.
 // A line that starts with '#' says what the next ones are, and is printed as it is.
+#![tactic(auto)]
+
 ghost use Rattle.std.specs.Prelude.{◌≤◌, ◌<◌};
 
 use message::{Event, MessageNumbers};
