@@ -1,4 +1,6 @@
 // The words, numbers and intervals of a rule typed as text (02, request 7).
+#![tactic(auto)]
+
 ghost use Rattle.std.specs.Prelude.{◌≡◌, ℕ, ◌+◌, ◌-◌, ◌*◌, ◌≤◌, ◌<◌, true, false, cond, ltb, leb, length, get_or};
 ghost use Rattle.refusal.specs.declared.Refusal.TheVariants.{RuleLimit};
 ghost use Rattle.rule_grammar.specs.Numeral.{digit};
