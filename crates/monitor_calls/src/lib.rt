@@ -1,4 +1,6 @@
 // The calls: a record opened, a message or a packet taken.
+#![tactic(auto)]
+
 ghost use Rattle.std.specs.Prelude.{◌≡◌, ◌+◌, ◌*◌};
 ghost use Rattle.policy.specs.Proper.{Proper};
 ghost use Rattle.message.specs.Format.{messages_of};
