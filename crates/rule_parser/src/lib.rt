@@ -1,4 +1,6 @@
 // A rule typed as text (02, request 7): read by descent, and written as a policy.
+#![tactic(auto)]
+
 ghost use Rattle.std.specs.Prelude.{◌≡◌, ◌+◌, ◌-◌, ◌*◌, ◌≤◌, ◌<◌, true, false, length, set};
 ghost use Rattle.refusal.specs.declared.Refusal.TheVariants.{RuleLimit};
 ghost use Rattle.refusal.specs.Writes.{Output};
