@@ -3,6 +3,9 @@ ghost use Rattle.std.specs.Prelude.{◌≡◌, ◌≤◌};
 ghost use Rattle.compile_rule.specs.Choices.{digit};
 ghost use Rattle.compile_rule.specs.Arguments.{with_digit as more, number as typed};
 
+use std::env::FillError;
+use std::rt::Env;
+
 // How many propositions, components and minutes a policy has; given where each argument was a number.
 #[derive(Clone, Copy)]
 pub struct Sizes {
@@ -59,18 +62,25 @@ fn number(digits: &[u8]) -> Typed
 }
 
 // Argument i. One that is longer than the buffer is none.
-fn argument(i: usize) -> Typed {
+fn argument(rt: &impl Env, i: usize) -> Typed {
     let mut word = io::buffer();
-    let n = os::arg(i, &mut word);
-    number(&word[..n])
+    match rt.arg(i, &mut word) {
+        Ok(n) => number(&word[..n]),
+        Err(_) => number(b""),
+    }
 }
 
-pub fn read() -> Sizes {
-    let propositions = argument(1);
-    let components = argument(2);
-    let minutes = argument(3);
+// Has argument i not been given.
+fn is_missing(rt: &impl Env, i: usize) -> bool {
+    matches!(rt.arg(i, &mut [0u8; 1]), Err(FillError::NotPresent))
+}
+
+pub fn read(rt: &impl Env) -> Sizes {
+    let propositions = argument(rt, 1);
+    let components = argument(rt, 2);
+    let minutes = argument(rt, 3);
     Sizes {
-        given: propositions.whole & components.whole & minutes.whole & (os::arg_count() == 4),
+        given: propositions.whole & components.whole & minutes.whole & is_missing(rt, 4),
         propositions: propositions.value,
         components: components.value,
         minutes: minutes.value,

@@ -6,6 +6,7 @@ use crate::arguments::is_digit;
 use crate::beginning;
 use crate::beginning::Expected;
 use crate::reason::byte_at;
+use crate::report::STDERR_FILENO;
 
 #[derive(Clone, Copy)]
 pub enum Excess {
@@ -73,10 +74,10 @@ fn say_digits(text: &[u8], at: usize)
 {
     let end = digits_end(text, at);
     if end - at > 20 {
-        io::write_all(libc::STDERR_FILENO, &text[at..at + 20]);
-        io::write_all(libc::STDERR_FILENO, b"..");
+        io::write_all(STDERR_FILENO, &text[at..at + 20]);
+        io::write_all(STDERR_FILENO, b"..");
     } else {
-        io::write_all(libc::STDERR_FILENO, &text[at..end]);
+        io::write_all(STDERR_FILENO, &text[at..end]);
     }
 }
 
@@ -85,11 +86,11 @@ fn say_interval(text: &[u8], at: usize)
     requires { at ≤ length text.now }
 {
     if at < text.len() {
-        io::write_all(libc::STDERR_FILENO, b"interval from ");
+        io::write_all(STDERR_FILENO, b"interval from ");
         say_digits(text, at + 1);
         let comma = digits_end(text, at + 1);
         if comma < text.len() {
-            io::write_all(libc::STDERR_FILENO, b" to ");
+            io::write_all(STDERR_FILENO, b" to ");
             say_digits(text, comma + 1);
         }
     }
@@ -101,21 +102,21 @@ pub fn say(e: Excess, text: &[u8], at: usize, propositions: usize)
 {
     match e {
         Excess::Mark => {
-            io::write_all(libc::STDERR_FILENO, b"mark ");
+            io::write_all(STDERR_FILENO, b"mark ");
             say_digits(text, at);
-            io::write_all(libc::STDERR_FILENO, b" of ");
-            io::print_decimal(libc::STDERR_FILENO, propositions as u64);
+            io::write_all(STDERR_FILENO, b" of ");
+            io::print_decimal(STDERR_FILENO, propositions as u64);
         }
         Excess::Bound => {
-            io::write_all(libc::STDERR_FILENO, b"bound ");
+            io::write_all(STDERR_FILENO, b"bound ");
             say_digits(text, at);
-            io::write_all(libc::STDERR_FILENO, b" above 1023");
+            io::write_all(STDERR_FILENO, b" above 1023");
         }
         Excess::Terms => {
-            io::write_all(libc::STDERR_FILENO, b"more than 64 terms");
+            io::write_all(STDERR_FILENO, b"more than 64 terms");
         }
         Excess::Nesting => {
-            io::write_all(libc::STDERR_FILENO, b"brackets nested deeper than 32");
+            io::write_all(STDERR_FILENO, b"brackets nested deeper than 32");
         }
         Excess::Interval => say_interval(text, at),
     }

@@ -2,31 +2,38 @@
 ghost use Rattle.std.specs.Prelude.{◌≤◌, length};
 ghost use Rattle.compile_rule.specs.Line.{Line};
 
-// How many bytes were read, and whether a read failed after them.
+use std::io::{Error, Read};
+
+// How many bytes were read, and the error of a read that failed after them.
 #[derive(Clone, Copy)]
 pub struct Input {
     pub end: usize,
-    pub cut: bool,
+    pub cut: Option<Error>,
 }
 
 // One read: no byte at the input's end, and where it failed.
-fn read_some(part: &mut [u8]) -> Input
+fn read_some<R: Read>(input: &mut R, part: &mut [u8]) -> Input
     ensures { result.end ≤ length part.old }
 {
-    let got = libc::read(libc::STDIN_FILENO, part);
-    Input {
-        end: io::count(got, part),
-        cut: got < 0,
+    match input.read(part) {
+        Ok(got) => Input {
+            end: got,
+            cut: None,
+        },
+        Err(error) => Input {
+            end: 0,
+            cut: Some(error),
+        },
     }
 }
 
 // Reads until the buffer is full, the input ends or a read fails.
-pub fn fill(buffer: &mut [u8]) -> Input
+pub fn fill<R: Read>(input: &mut R, buffer: &mut [u8]) -> Input
     ensures { result.end ≤ length buffer.old }
 {
     let mut end = 0;
     while end < buffer.len() {
-        let piece = read_some(&mut buffer[end..]);
+        let piece = read_some(input, &mut buffer[end..]);
         if piece.end == 0 {
             return Input {
                 end: end,
@@ -37,7 +44,7 @@ pub fn fill(buffer: &mut [u8]) -> Input
     }
     Input {
         end: end,
-        cut: false,
+        cut: None,
     }
 }
 

@@ -12,6 +12,7 @@ mod report;
 
 use arguments::Sizes;
 use refusal::Written;
+use std::io::Print;
 
 // The longest policy: 5 bytes of heading and 64 lines of 8.
 const LONGEST_POLICY: usize = 517;
@@ -20,14 +21,14 @@ const LONGEST_POLICY: usize = 517;
 const LONGEST_TEXT: usize = 65536;
 
 // Writes the policy's bytes to standard output.
-fn print(policy: &[u8]) {
-    if !io::write_all(libc::STDOUT_FILENO, policy) {
-        os::fail(b"output cut");
+fn print(rt: &impl Print, policy: &[u8]) {
+    if let Err(error) = rt.write_all(policy) {
+        failures::tell(b"output cut", error);
     }
 }
 
 // Prints the policy of a text, or tells why there is none. The text's bytes are then used up.
-fn compile(text: &mut [u8], sizes: Sizes) {
+fn compile(rt: &impl Print, text: &mut [u8], sizes: Sizes) {
     let mut policy = [0u8; LONGEST_POLICY];
     let answer = rule_parser::compile(
         text,
@@ -37,26 +38,26 @@ fn compile(text: &mut [u8], sizes: Sizes) {
         &mut policy,
     );
     match answer {
-        Written::Length(n) => print(&policy[0..n]),
+        Written::Length(n) => print(rt, &policy[0..n]),
         Written::Refused(r) => report::refused(text, sizes.propositions, r),
     }
 }
 
-fn main() {
-    let sizes = arguments::read();
+fn main(rt: HostRuntime) {
+    let sizes = arguments::read(&rt);
     if !sizes.given {
         report::usage();
         return;
     }
     let mut text = [0u8; 65537];
-    let read = input::fill(&mut text);
+    let read = input::fill(&mut rt.stdin(), &mut text);
     let end = read.end;
-    if read.cut {
-        os::fail(b"input cut");
+    if let Some(error) = read.cut {
+        failures::tell(b"input cut", error);
     } else if end > LONGEST_TEXT {
         report::too_long();
     } else {
         let length = input::without_newline(&text[0..end]);
-        compile(&mut text[0..length], sizes);
+        compile(&rt, &mut text[0..length], sizes);
     }
 }

@@ -5,6 +5,7 @@ ghost use Rattle.compile_rule.specs.Words as S;
 use crate::arguments::is_digit;
 use crate::beginning;
 use crate::beginning::Expected;
+use crate::report::STDERR_FILENO;
 
 #[derive(Clone, Copy)]
 pub enum Reason {
@@ -109,21 +110,21 @@ pub fn reason_at(text: &[u8], at: usize) -> Reason
 // The words of a reason; answers whether they were written.
 pub fn say(r: Reason) -> bool {
     match r {
-        Reason::Term => io::write_all(libc::STDERR_FILENO, b"expected a term"),
-        Reason::True => io::write_all(libc::STDERR_FILENO, b"expected true"),
-        Reason::Not => io::write_all(libc::STDERR_FILENO, b"expected not"),
-        Reason::Space => io::write_all(libc::STDERR_FILENO, b"expected a space"),
-        Reason::Number => io::write_all(libc::STDERR_FILENO, b"expected a number"),
-        Reason::LeadingZero => io::write_all(libc::STDERR_FILENO, b"a number has no leading zero"),
-        Reason::End => io::write_all(libc::STDERR_FILENO, b"expected the end"),
-        Reason::Close => io::write_all(libc::STDERR_FILENO, b"expected \")\""),
-        Reason::Joint => io::write_all(libc::STDERR_FILENO, b"expected or, and, since or until"),
-        Reason::Or => io::write_all(libc::STDERR_FILENO, b"expected or"),
-        Reason::And => io::write_all(libc::STDERR_FILENO, b"expected and"),
-        Reason::Since => io::write_all(libc::STDERR_FILENO, b"expected since"),
-        Reason::Until => io::write_all(libc::STDERR_FILENO, b"expected until"),
-        Reason::Bracket => io::write_all(libc::STDERR_FILENO, b"expected \"[\""),
-        Reason::Comma => io::write_all(libc::STDERR_FILENO, b"expected \",\""),
-        Reason::CloseInterval => io::write_all(libc::STDERR_FILENO, b"expected \"]\""),
+        Reason::Term => io::write_all(STDERR_FILENO, b"expected a term"),
+        Reason::True => io::write_all(STDERR_FILENO, b"expected true"),
+        Reason::Not => io::write_all(STDERR_FILENO, b"expected not"),
+        Reason::Space => io::write_all(STDERR_FILENO, b"expected a space"),
+        Reason::Number => io::write_all(STDERR_FILENO, b"expected a number"),
+        Reason::LeadingZero => io::write_all(STDERR_FILENO, b"a number has no leading zero"),
+        Reason::End => io::write_all(STDERR_FILENO, b"expected the end"),
+        Reason::Close => io::write_all(STDERR_FILENO, b"expected \")\""),
+        Reason::Joint => io::write_all(STDERR_FILENO, b"expected or, and, since or until"),
+        Reason::Or => io::write_all(STDERR_FILENO, b"expected or"),
+        Reason::And => io::write_all(STDERR_FILENO, b"expected and"),
+        Reason::Since => io::write_all(STDERR_FILENO, b"expected since"),
+        Reason::Until => io::write_all(STDERR_FILENO, b"expected until"),
+        Reason::Bracket => io::write_all(STDERR_FILENO, b"expected \"[\""),
+        Reason::Comma => io::write_all(STDERR_FILENO, b"expected \",\""),
+        Reason::CloseInterval => io::write_all(STDERR_FILENO, b"expected \"]\""),
     }
 }

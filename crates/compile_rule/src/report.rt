@@ -5,18 +5,18 @@ ghost use Rattle.compile_rule.specs.Words as S;
 use crate::{excess, reason};
 use refusal::Refusal;
 
+// Standard error's descriptor.
+pub const STDERR_FILENO: i32 = 2;
+
 pub fn usage() {
     io::write_all(
-        libc::STDERR_FILENO,
+        STDERR_FILENO,
         b"usage: compile_rule MARKS STATIONS MINUTES < RULE > CARD\n",
     );
 }
 
 pub fn too_long() {
-    io::write_all(
-        libc::STDERR_FILENO,
-        b"the text is longer than 65536 bytes\n",
-    );
+    io::write_all(STDERR_FILENO, b"the text is longer than 65536 bytes\n");
 }
 
 // The byte, or a question mark for one that is not printed.
@@ -52,10 +52,10 @@ fn make_blank(text: &mut [u8]) {
 
 // The number and the place of a refusal, before its words.
 fn say_number(number: u64, place: usize) {
-    io::print_decimal(libc::STDERR_FILENO, number);
-    io::write_all(libc::STDERR_FILENO, b" at ");
-    io::print_decimal(libc::STDERR_FILENO, place as u64);
-    io::write_all(libc::STDERR_FILENO, b": ");
+    io::print_decimal(STDERR_FILENO, number);
+    io::write_all(STDERR_FILENO, b" at ");
+    io::print_decimal(STDERR_FILENO, place as u64);
+    io::write_all(STDERR_FILENO, b": ");
 }
 
 // The lesser of two places.
@@ -70,11 +70,11 @@ fn point_at(text: &mut [u8], place: usize)
     requires { place ≤ length text.old }
 {
     make_shown(text);
-    io::write_all(libc::STDERR_FILENO, text);
-    io::write_all(libc::STDERR_FILENO, b"\n");
+    io::write_all(STDERR_FILENO, text);
+    io::write_all(STDERR_FILENO, b"\n");
     make_blank(&mut text[0..place]);
-    io::write_all(libc::STDERR_FILENO, &text[0..place]);
-    io::write_all(libc::STDERR_FILENO, b"^ ");
+    io::write_all(STDERR_FILENO, &text[0..place]);
+    io::write_all(STDERR_FILENO, b"^ ");
 }
 
 // Tells what was expected at a place.
@@ -85,7 +85,7 @@ fn unreadable(text: &mut [u8], at: usize, place: usize)
     point_at(text, at);
     say_number(13, place);
     reason::say(why);
-    io::write_all(libc::STDERR_FILENO, b"\n");
+    io::write_all(STDERR_FILENO, b"\n");
 }
 
 // Tells which limit is passed at a place.
@@ -96,14 +96,14 @@ fn too_much(text: &mut [u8], at: usize, place: usize, propositions: usize)
     point_at(text, at);
     say_number(14, place);
     excess::say(which, text, at, propositions);
-    io::write_all(libc::STDERR_FILENO, b"\n");
+    io::write_all(STDERR_FILENO, b"\n");
 }
 
 // Tells the ranges of the three numbers that the program is started with.
 fn bad_sizes(place: usize) {
     say_number(2, place);
     io::write_all(
-        libc::STDERR_FILENO,
+        STDERR_FILENO,
         b"marks 1 to 32, stations 1 to 16, minutes 1 to 1024\n",
     );
 }
@@ -111,7 +111,7 @@ fn bad_sizes(place: usize) {
 // Tells of any other refusal. There is none: the buffer that the program lends is as long as the longest policy.
 fn other(number: u8, place: usize) {
     say_number(number as u64, place);
-    io::write_all(libc::STDERR_FILENO, b"refused\n");
+    io::write_all(STDERR_FILENO, b"refused\n");
 }
 
 // Tells why the text is refused. Its bytes are then used up.

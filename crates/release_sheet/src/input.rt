@@ -2,6 +2,8 @@
 ghost use Rattle.std.specs.Prelude.{◌≡◌, ◌+◌, ◌<◌, ◌≤◌, length};
 
 use crate::{report, retry};
+use std::io::{Input, Read};
+use std::rt::Clock;
 
 // The bytes of the buffer that are read and not yet used, whether more may come, and how many bytes of the input came before the buffer's.
 #[derive(Clone, Copy)]
@@ -13,29 +15,34 @@ pub struct Window {
 }
 
 // One read of standard input, made again where that may help; 0 at its end, and where it failed.
-fn read_some(part: &mut [u8]) -> usize
+fn read_some(rt: &(impl Input + Clock), part: &mut [u8]) -> usize
     ensures { result ≤ length part.old }
 {
     let mut turns = retry::TURNS;
     while turns > 0 {
-        let got = libc::read(libc::STDIN_FILENO, part);
-        if got >= 0 {
-            return io::count(got, part);
+        match rt.reader().read(part) {
+            Ok(got) => {
+                return got;
+            }
+            Err(error) => {
+                turns = retry::turns_left(rt, turns, error);
+                if turns == 0 {
+                    report::input_cut(error);
+                }
+            }
         }
-        turns = retry::turns_left(turns);
     }
-    report::input_cut();
     0
 }
 
 // Reads from a place on until the buffer is full or the input ends, and answers where the bytes end.
-fn fill(buffer: &mut [u8], from: usize) -> usize
+fn fill(rt: &(impl Input + Clock), buffer: &mut [u8], from: usize) -> usize
     requires { from ≤ length buffer.old }
     ensures { result ≤ length buffer.old }
 {
     let mut end = from;
     while end < buffer.len() {
-        let got = read_some(&mut buffer[end..]);
+        let got = read_some(rt, &mut buffer[end..]);
         if got == 0 {
             return end;
         }
@@ -63,14 +70,14 @@ pub fn position(window: Window) -> u64 {
 }
 
 // Keeps what is not yet used, and fills the rest of the buffer.
-fn refill(buffer: &mut [u8], window: Window) -> Window
+fn refill(rt: &(impl Input + Clock), buffer: &mut [u8], window: Window) -> Window
     requires { (window.at ≤ window.end) × (window.end ≤ length buffer.old) }
     ensures { (result.at ≤ result.end) × (result.end ≤ length buffer.old) }
 {
     let at = window.at;
     let end = window.end;
     move_to_front(buffer, at, end);
-    let filled = fill(buffer, end - at);
+    let filled = fill(rt, buffer, end - at);
     Window {
         at: 0,
         end: filled,
@@ -80,10 +87,11 @@ fn refill(buffer: &mut [u8], window: Window) -> Window
 }
 
 // The first piece of the input.
-pub fn start(buffer: &mut [u8]) -> Window
+pub fn start(rt: &(impl Input + Clock), buffer: &mut [u8]) -> Window
     ensures { (result.at ≤ result.end) × (result.end ≤ length buffer.old) }
 {
     refill(
+        rt,
         buffer,
         Window {
             at: 0,
@@ -95,13 +103,13 @@ pub fn start(buffer: &mut [u8]) -> Window
 }
 
 // Sees to it that as many bytes as a message with its length byte can have are there, or all that the input still has.
-pub fn ready(buffer: &mut [u8], window: Window) -> Window
+pub fn ready(rt: &(impl Input + Clock), buffer: &mut [u8], window: Window) -> Window
     requires { (window.at ≤ window.end) × (window.end ≤ length buffer.old) }
     ensures { (result.at ≤ result.end) × (result.end ≤ length buffer.old) }
 {
     if window.more {
         if window.end - window.at < 256 {
-            return refill(buffer, window);
+            return refill(rt, buffer, window);
         }
     }
     window

@@ -16,6 +16,8 @@ use input::Window;
 use monitor::Answer;
 use output::Page;
 use refusal::Refusal;
+use std::io::{Input, Print};
+use std::rt::Clock;
 
 // The longest policy: 5 bytes of heading and 64 lines of 8.
 const LONGEST_POLICY: usize = 517;
@@ -140,6 +142,7 @@ fn counted(tally: Tally, answer: Answer, start: u64) -> Tally
 
 // Offers every message of the input.
 fn receive_all(
+    rt: &(impl Input + Clock),
     policy: &[u8],
     parts: Parts,
     buffer: &mut [u8],
@@ -163,7 +166,7 @@ fn receive_all(
     let mut turns = retry::TURNS;
     let mut w = window;
     while turns > 0 {
-        w = input::ready(buffer, w);
+        w = input::ready(rt, buffer, w);
         let at = w.at;
         let end = w.end;
         if at == end {
@@ -196,7 +199,14 @@ fn wide(b: u8) -> usize {
 }
 
 // The verdicts of one minute, by rule.
-fn put_minute(verdicts: &[u8], parts: Parts, minute: usize, text: &mut [u8], page: Page) -> Page
+fn put_minute(
+    rt: &(impl Print + Clock),
+    verdicts: &[u8],
+    parts: Parts,
+    minute: usize,
+    text: &mut [u8],
+    page: Page,
+) -> Page
     requires { Fits parts
         × (length verdicts.now ≡ 8192)
         × (minute < parts.minutes)
@@ -210,7 +220,7 @@ fn put_minute(verdicts: &[u8], parts: Parts, minute: usize, text: &mut [u8], pag
     let mut cell = minute;
     let mut rule = 0;
     while rule < rules {
-        sheet = output::put_verdict(text, sheet, minute, rule, verdicts[cell]);
+        sheet = output::put_verdict(rt, text, sheet, minute, rule, verdicts[cell]);
         cell += minutes;
         rule += 1;
     }
@@ -218,7 +228,7 @@ fn put_minute(verdicts: &[u8], parts: Parts, minute: usize, text: &mut [u8], pag
 }
 
 // The verdicts, by minute and then by rule.
-fn put_verdicts(verdicts: &[u8], parts: Parts, text: &mut [u8]) -> Page
+fn put_verdicts(rt: &(impl Print + Clock), verdicts: &[u8], parts: Parts, text: &mut [u8]) -> Page
     requires { Fits parts × (length verdicts.now ≡ 8192) × (64 ≤ length text.old) }
     ensures { result.at ≤ length text.old }
 {
@@ -226,24 +236,31 @@ fn put_verdicts(verdicts: &[u8], parts: Parts, text: &mut [u8]) -> Page
     let mut sheet = Page { at: 0, whole: true };
     let mut minute = 0;
     while minute < minutes {
-        sheet = put_minute(verdicts, parts, minute, text, sheet);
+        sheet = put_minute(rt, verdicts, parts, minute, text, sheet);
         minute += 1;
     }
     sheet
 }
 
 // Prints the verdicts and the tally; nothing is left in the text.
-fn print_sheet(verdicts: &[u8], parts: Parts, tally: Tally, text: &mut [u8]) -> Page
+fn print_sheet(
+    rt: &(impl Print + Clock),
+    verdicts: &[u8],
+    parts: Parts,
+    tally: Tally,
+    text: &mut [u8],
+) -> Page
     requires { Fits parts × (length verdicts.now ≡ 8192) × (64 ≤ length text.old) }
     ensures { result.at ≡ 0 }
 {
-    let last = put_verdicts(verdicts, parts, text);
-    let end = output::put_tally(text, last, tally.taken, tally.refused);
-    output::flush(text, end)
+    let last = put_verdicts(rt, verdicts, parts, text);
+    let end = output::put_tally(rt, text, last, tally.taken, tally.refused);
+    output::flush(rt, text, end)
 }
 
 // Receives the messages and prints the sheet.
 fn watch(
+    rt: &(impl Input + Print + Clock),
     policy: &[u8],
     parts: Parts,
     buffer: &mut [u8],
@@ -263,21 +280,22 @@ fn watch(
         × (64 ≤ length text.old) }
 {
     let tally = receive_all(
-        policy, parts, buffer, window, numbers, facts, valuation, verdicts, origin, extent,
+        rt, policy, parts, buffer, window, numbers, facts, valuation, verdicts, origin, extent,
     );
-    print_sheet(verdicts, parts, tally, text);
+    print_sheet(rt, verdicts, parts, tally, text);
 }
 
 // Prints that the policy, which starts at a byte of the input, is refused, and tells why.
-fn refuse_policy(start: u64, r: Refusal, text: &mut [u8])
+fn refuse_policy(rt: &(impl Print + Clock), start: u64, r: Refusal, text: &mut [u8])
     requires { 64 ≤ length text.old }
 {
     report::policy_refused(start, r);
-    output::print_refused(text, r);
+    output::print_refused(rt, text, r);
 }
 
 // Opens the policy; then the messages follow, or the line that says that the policy is refused.
 fn run(
+    rt: &(impl Input + Print + Clock),
     policy: &[u8],
     start: u64,
     buffer: &mut [u8],
@@ -301,12 +319,12 @@ fn run(
     );
     match answer {
         Answer::Refused(r) => {
-            refuse_policy(start, r, text);
+            refuse_policy(rt, start, r, text);
         }
         Answer::Done => {
             watch(
-                policy, parts, buffer, window, numbers, facts, valuation, verdicts, origin, extent,
-                text,
+                rt, policy, parts, buffer, window, numbers, facts, valuation, verdicts, origin,
+                extent, text,
             );
         }
         Answer::Received { standing: _ } => {}
@@ -323,7 +341,7 @@ fn policy_length(buffer: &[u8], end: usize) -> usize
     encoding::word(buffer[0], buffer[1]) as usize
 }
 
-fn main() {
+fn main(rt: HostRuntime) {
     let mut buffer = [0u8; 65536];
     let mut text = [0u8; 65536];
     let mut policy = [0u8; 517];
@@ -333,16 +351,17 @@ fn main() {
     let mut verdicts = [0u8; 8192];
     let mut origin = [0u8; 517];
     let mut extent = 0u16;
-    let window = input::start(&mut buffer);
+    let window = input::start(&rt, &mut buffer);
     let end = window.end;
     let length = policy_length(&buffer, end);
     if length > LONGEST_POLICY {
-        refuse_policy(2, Refusal::TruncatedPolicy(LONGEST_POLICY), &mut text);
+        refuse_policy(&rt, 2, Refusal::TruncatedPolicy(LONGEST_POLICY), &mut text);
         return;
     }
     let from = input::piece_end(0, 2, end);
     let to = input::piece_end(from, length, end);
-    let n = bytes::copy(&buffer[from..to], &mut policy);
+    let n = to - from;
+    policy[0..n].copy_from_slice(&buffer[from..to]);
     let rest = Window {
         at: to,
         end: end,
@@ -350,6 +369,7 @@ fn main() {
         before: window.before,
     };
     run(
+        &rt,
         &policy[0..n],
         from as u64,
         &mut buffer,

@@ -3,6 +3,10 @@ ghost use Rattle.std.specs.Prelude.{◌≡◌, ◌+◌, ◌<◌, ◌≤◌, leng
 
 use crate::text::{put, put_labelled};
 use refusal::Refusal;
+use std::io::Error;
+
+// Standard error's descriptor.
+const STDERR_FILENO: i32 = 2;
 
 // Why a policy is refused (01: the words of 1 to 4).
 fn put_policy_reason(text: &mut [u8], at: usize, number: u8) -> usize
@@ -78,7 +82,7 @@ fn tell(text: &mut [u8], at: usize, start: u64, r: Refusal)
 {
     let reason = put_refusal(text, at, start, r);
     let end = put_reason(text, reason, refusal::number(r));
-    io::write_all(libc::STDERR_FILENO, &text[0..end]);
+    io::write_all(STDERR_FILENO, &text[0..end]);
 }
 
 // Tells why the policy, which starts at a byte of the input, is refused.
@@ -96,11 +100,11 @@ pub fn message_refused(index: u64, start: u64, r: Refusal) {
 }
 
 // Tells that a read failed, and why; what was read before it counts as all of the input.
-pub fn input_cut() {
-    os::fail(b"input cut");
+pub fn input_cut(error: Error) {
+    failures::tell(b"input cut", error);
 }
 
 // Tells that a write failed, and why; nothing more of the sheet is written.
-pub fn output_cut() {
-    os::fail(b"output cut");
+pub fn output_cut(error: Error) {
+    failures::tell(b"output cut", error);
 }

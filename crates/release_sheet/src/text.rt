@@ -6,7 +6,9 @@ pub fn put(text: &mut [u8], at: usize, word: &[u8]) -> usize
     requires { at + length word.now ≤ length text.old }
     ensures { result ≡ at + length word.now }
 {
-    at + bytes::copy(word, &mut text[at..])
+    let end = at + word.len();
+    text[at..end].copy_from_slice(word);
+    end
 }
 
 // Puts a number's digits at a place, and answers the place after them.
