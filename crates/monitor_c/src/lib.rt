@@ -2,6 +2,8 @@
 // the call is not refused and else the refusal's, and writes a detail: a refusal's place, how many verdicts stand after a take, the code of the verdict
 // that a look shows, the length of a text that is written, how many reaches are written. A packet writes two: how many messages were taken, and the
 // refusal's place.
+#![tactic(auto)]
+
 ghost use Rattle.std.specs.Prelude.{◌≡◌};
 ghost use Rattle.origin.specs.Origin.{stamped};
 ghost use Rattle.monitor.specs.State.{lent, open_state, receive, receive_packet};
