@@ -1,4 +1,4 @@
-//! Links the archive that `rt staticlib monitor_c` writes: in `target/staticlib` of the repository, or where ZANKEZURT_ARCHIVE says.
+//! Links the archive that `tools/build monitor_c` writes: in `target/staticlib` of the repository, or where ZANKEZURT_ARCHIVE says.
 
 use std::env;
 use std::path::PathBuf;
@@ -16,12 +16,12 @@ fn main() {
     if !archive.is_file() {
         let missing = archive.display();
         println!(
-            "cargo::error=no {missing}: run `rt staticlib monitor_c` first, or set ZANKEZURT_ARCHIVE to its folder"
+            "cargo::error=no {missing}: run `tools/build monitor_c` first, or set ZANKEZURT_ARCHIVE to its folder"
         );
     }
 }
 
-/// Where `rt staticlib` writes.
+/// Where `tools/build` puts it.
 fn beside() -> PathBuf {
     PathBuf::from(env!("CARGO_MANIFEST_DIR")).join("../target/staticlib")
 }

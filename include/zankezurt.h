@@ -1,4 +1,4 @@
-/* The calls of the proved runtime monitor for C, on x86-64 Linux: link libmonitor_c.a, which `rt staticlib monitor_c` writes.
+/* The calls of the proved runtime monitor for C, on x86-64 Linux: link libmonitor_c.a, which `tools/build monitor_c` writes.
 
    A call gives 0, or the number of its refusal, and writes *detail: the place of a refusal (0 where it has none), how many
    verdicts stand after zankezurt_receive, the verdict that zankezurt_lookup shows, the length of what zankezurt_encode_policy,

@@ -18,7 +18,7 @@ fn failure(name: &str, words: &[&str]) -> String {
 #[test]
 fn a_missing_archive() {
     let said = failure("without_archive", &[]);
-    assert!(said.contains("libmonitor_c.a: run `rt staticlib monitor_c` first"), "{said}");
+    assert!(said.contains("libmonitor_c.a: run `tools/build monitor_c` first"), "{said}");
 }
 
 #[test]
