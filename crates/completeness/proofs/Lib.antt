@@ -1,4 +1,3 @@
 pub mod Pins
-pub mod Reports
 pub mod Stands
 pub mod Told

@@ -11,7 +11,7 @@ use Rattle.knowledge.specs.Knowledge.{Knowledge, none, noted, number, Sound, Lev
 use Rattle.knowledge.proofs.Runs.{not_both}
 use Rattle.completeness.specs.Complete.{Complete}
 use Rattle.completeness.specs.Reports.{AllTold}
-use Rattle.completeness.proofs.Reports.{Report, Observed, Reports}
+use Rattle.completeness.specs.Reports.{Report, Observed, Reports}
 use Rattle.completeness.specs.Told.{Told}
 
 module _ (z : Sizes) (P : ℕ → Type 0) (w : Trace z) (Q : Message → Type 0) (k : Knowledge) (sound : Sound z k) (told : Told z k Q) (all : Reports z P w Q) where

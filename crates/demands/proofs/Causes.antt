@@ -13,7 +13,7 @@ use Rattle.refusal.specs.Checks.{Check, check, first_failed, Passed as AllPassed
 use Rattle.refusal.proofs.Laws.{refusal_law, passing_law, refused_before, refused_after, passed_both, passed_parts, refused_where, number_law, not_accepted}
 use Rattle.policy.specs.Format.{policy_checks, answer_of as policy_answer, policy_of}
 use Rattle.policy.specs.Proper.{Causes as PolicyReaderCauses}
-use Rattle.policy.proofs.Causes.{policy_refuses}
+use Rattle.policy.proofs.Answered.{policy_refuses}
 use Rattle.message.specs.Format.{message_checks, answer_of as message_answer}
 use Rattle.message.specs.Fixes.{Fits, WellFormed, meaning_of}
 use Rattle.message.specs.Proper.{Causes as MessageReaderCauses}

@@ -12,7 +12,7 @@ use Rattle.refusal.proofs.Laws.{passing_law, refused_before, refused_after, refu
 use Rattle.logic.proofs.Bools.{both, pair}
 use Rattle.policy.specs.Format.{policy_checks, policy_of}
 use Rattle.policy.specs.Proper.{Causes as PolicyReaderCauses}
-use Rattle.policy.proofs.Causes.{policy_refuses}
+use Rattle.policy.proofs.Answered.{policy_refuses}
 use Rattle.monitor.specs.declared.Verdict.{Verdict}
 use Rattle.monitor.specs.declared.Verdict.TheVariants.{Unknown, Satisfied, Violated}
 use Rattle.monitor.specs.declared.Look.TheVariants as L

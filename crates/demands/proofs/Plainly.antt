@@ -6,7 +6,8 @@ use Rattle.mtl.specs.Algebra.{two}
 use Rattle.mtl.specs.Reading.{reading}
 use Rattle.mtl.specs.Knowing.{Settles, open3, is_true, is_false}
 use Rattle.mtl.proofs.Knowing.{reading_decides}
-use Rattle.mtl.proofs.Textbook.{Holds, textbook}
+use Rattle.mtl.proofs.Textbook.{textbook}
+use Rattle.mtl.specs.Textbook.{Holds}
 use Rattle.policy.specs.declared.Policy.{Policy}
 use Rattle.policy.specs.Proper.{formula_at}
 use Rattle.knowledge.specs.Trace.{Trace, time_point, trace_world}

@@ -1,4 +1,5 @@
 -- The demands, proved: each is one inhabitant of its type in Demands.
+use Rattle.refusal.specs.declared.Answer.TheVariants as C
 use Rattle.std.specs.Prelude.{ℕ, ◌+◌, ◌*◌, ◌≤◌, ◌<◌, ◌≡◌, Bool, cond, ◌⊎◌, ◌↔◌, ◌≢◌, List, [], ◌∷◌, ◌++◌, length}
 use Rattle.std.proofs.Common.{arith, sym, ap, ◌∙◌, inl, inr, ne_eqb}
 use Rattle.std.proofs.Math.Path.{refl}
@@ -8,7 +9,6 @@ use Rattle.rows.proofs.Laws.{zeros}
 use Rattle.refusal.specs.declared.Refusal.{Refusal}
 use Rattle.refusal.specs.declared.Refusal.TheVariants.{Conflict}
 use Rattle.refusal.specs.declared.Answer.{Answer as Checked}
-use Rattle.refusal.specs.declared.Answer.TheVariants as C
 use Rattle.refusal.proofs.Table.{table}
 use Rattle.refusal.specs.Checks.{check, first_failed, Passed as AllPassed, none as no_more, pass}
 use Rattle.refusal.proofs.Laws.{passing_law, passed_parts, not_accepted, same_refusal, the_refusal}
@@ -16,7 +16,7 @@ use Rattle.policy.specs.declared.Policy.{Policy}
 use Rattle.policy.specs.Format.{policy_checks, answer_of as policy_answer, policy_of}
 use Rattle.policy.specs.Proper.{Proper}
 use Rattle.policy.proofs.Laws.{accepted as policy_proper, short}
-use Rattle.policy.proofs.Causes.{causes as policy_causes}
+use Rattle.policy.proofs.Answered.{causes as policy_causes}
 use Rattle.message.specs.Format.{message_checks}
 use Rattle.message.specs.Fixes.{Message, FixesNumber, FixesFact, Fits, WellFormed, meaning_of}
 use Rattle.message.proofs.Laws.{fits, causes as message_causes}
@@ -41,6 +41,7 @@ use Rattle.demands.proofs.Keeping.{sheets_over, is_over, same_state}
 use Rattle.demands.proofs.Runs.{accept_law, from_open, start, stand, truth, all_up, all_taken}
 use Rattle.demands.proofs.Causes.{opening_causes, take_causes}
 use Rattle.demands.proofs.Looks.{look_causes}
+use Rattle.demands.specs.Opened.{OpenedState}
 
 -- ---- what an accepted card gives
 
@@ -61,11 +62,6 @@ demand_1 = record {
 }
 
 -- ---- an opening
-
--- an opening that answers done leaves the opened state, under an accepted card
-pub record OpenedState (s : List ℕ) (o : Outcome) : Type 0 where
-  pub card : policy_answer s ≡ C.Accepted
-  pub state : o.state ≡ opened (policy_of s) (origin_of s)
 
 pub opens : (s : List ℕ) (x : State) → (open_state s x).answer ≡ Done → OpenedState s (open_state s x)
 unfolding open_state policy_answer

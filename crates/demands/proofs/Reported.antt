@@ -16,7 +16,7 @@ use Rattle.knowledge.specs.Knowledge.{follow, steady, level, full, word_sound, w
 use Rattle.valuation.specs.Sheets.{valuation_of, verdicts_of}
 use Rattle.reach.specs.Reach.{reach_deep, reach}
 use Rattle.completeness.specs.Complete.{Every}
-use Rattle.completeness.proofs.Reports.{Observed, Reports}
+use Rattle.completeness.specs.Reports.{Observed, Reports}
 use Rattle.monitor.specs.declared.Answer.TheVariants.{Done}
 use Rattle.origin.specs.Origin.{origin_of, opened_under}
 use Rattle.monitor.specs.State.{State, sizes_fit, opened, open_state, receive, run_calls, accepted_from, accepted}

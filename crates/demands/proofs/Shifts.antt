@@ -8,7 +8,7 @@ use Rattle.refusal.specs.declared.Answer.TheVariants as C
 use Rattle.policy.specs.declared.Policy.{Policy}
 use Rattle.policy.specs.Format.{answer_of as policy_answer, policy_of}
 use Rattle.policy.proofs.Laws.{accepted as policy_proper}
-use Rattle.policy.proofs.Causes.{causes as policy_causes}
+use Rattle.policy.proofs.Answered.{causes as policy_causes}
 use Rattle.message.specs.Fixes.{Message, WellFormed, meaning_of}
 use Rattle.knowledge.specs.Trace.{Trace, Admits}
 use Rattle.knowledge.specs.Knowledge.{Knowledge, KnownPoint}
@@ -21,7 +21,7 @@ use Rattle.reach.proofs.Refusals.{causes as reach_causes}
 use Rattle.completeness.specs.Complete.{Complete, Every, Named, NoBlanks}
 use Rattle.completeness.proofs.Stands.{for_fewer, no_blanks}
 use Rattle.completeness.specs.Reports.{AllTold}
-use Rattle.completeness.proofs.Reports.{Reports}
+use Rattle.completeness.specs.Reports.{Reports}
 use Rattle.completeness.specs.Told.{Told}
 use Rattle.completeness.proofs.Told.{all_told}
 use Rattle.origin.specs.Origin.{Origin, origin_of}

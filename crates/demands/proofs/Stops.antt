@@ -13,7 +13,7 @@ use Rattle.refusal.proofs.Numbers.{first_place}
 use Rattle.refusal.specs.Checks.{Check, first_failed, and_then, Passed as AllPassed, Refuses, RefusedWith}
 use Rattle.refusal.proofs.Laws.{not_accepted, same_refusal, refusal_law, passing_law, in_order, refused_where, the_refusal}
 use Rattle.policy.specs.Format.{policy_of}
-use Rattle.policy.proofs.Causes.{causes as policy_causes}
+use Rattle.policy.proofs.Answered.{causes as policy_causes}
 use Rattle.message.specs.Format.{length_of, used_of, rest_of, messages_of}
 use Rattle.message.specs.Packet.{Packed, no_more, whole, cut}
 use Rattle.message.proofs.First.{packed, messages_none, messages_some}

@@ -12,7 +12,7 @@ use Rattle.refusal.specs.Numbers.{refusal_number, refusal_place}
 use Rattle.refusal.specs.Checks.{check, first_failed, and_then, Passed as AllPassed, Refuses, RefusedWith}
 use Rattle.refusal.proofs.Laws.{not_accepted, refusal_law, passing_law, in_order, refused_where}
 use Rattle.policy.specs.Format.{answer_of as policy_answer, policy_of}
-use Rattle.policy.proofs.Causes.{causes as policy_causes}
+use Rattle.policy.proofs.Answered.{causes as policy_causes}
 use Rattle.message.specs.Format.{messages_of}
 use Rattle.message.specs.Fixes.{meaning_of}
 use Rattle.knowledge.specs.Knowledge.{sound}

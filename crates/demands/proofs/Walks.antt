@@ -7,7 +7,7 @@ use Rattle.std.proofs.Math.Seq.{take-append-add}
 use Rattle.refusal.specs.declared.Refusal.{Refusal}
 use Rattle.logic.proofs.Bools.{both}
 use Rattle.policy.specs.Format.{policy_of}
-use Rattle.policy.proofs.Causes.{causes as policy_causes}
+use Rattle.policy.proofs.Answered.{causes as policy_causes}
 use Rattle.message.specs.Fixes.{Message, meaning_of}
 use Rattle.knowledge.specs.Knowledge.{stored, sound, free, admits}
 use Rattle.knowledge.proofs.Laws.{sound_law}

@@ -2,3 +2,4 @@
 pub mod Small
 pub mod Past
 pub mod Reported
+pub mod Opened

@@ -12,7 +12,7 @@ use Rattle.message.specs.Fixes.{Message, meaning_of}
 use Rattle.knowledge.specs.Trace.{Trace}
 use Rattle.reach.specs.Reaches.{rule_reach}
 use Rattle.completeness.specs.Complete.{Every}
-use Rattle.completeness.proofs.Reports.{Reports}
+use Rattle.completeness.specs.Reports.{Reports}
 use Rattle.monitor.specs.State.{State, Receive, after, accepted, Call}
 use Rattle.monitor.specs.Demands.{sizes_of, shown}
 use Rattle.demands.specs.Small.{U, false_at_2, false_at_3, alive_at_4}

@@ -1,4 +1,5 @@
 pub mod Conflict
+pub mod Counted
 pub mod Counts
 pub mod Exact
 pub mod Laws

@@ -13,7 +13,7 @@ use Rattle.knowledge.specs.Trace.{tally}
 use Rattle.knowledge.specs.Knowledge.{none, Steady, Across, Equal, Apart}
 use Rattle.knowledge.proofs.Runs.{follow_up}
 use Rattle.knowledge.specs.Outwards.{NearestBefore, NearestAfter, NoneBefore, NoneAfter, in_reach, places_read, Counted, NeverFalls, NeverJumps, Outwards}
-use Rattle.knowledge.specs.Nearest.{Narrows}
+use Rattle.knowledge.specs.Nearest.{Narrows, InReach}
 
 -- those of a steady run neither fall nor jump
 pub steady_never_falls : (f : ℕ → ℕ) (m : ℕ) → Steady f (suc m) → NeverFalls f m
@@ -29,10 +29,6 @@ level_narrows f m S i a b j l u w h ki ka kb kj e =
 pub full_narrows : (f : ℕ → ℕ) (m : ℕ) → NeverJumps f m → Narrows Apart f m
 full_narrows f m S i a b j l u w h ki ka kb kj e =
     omega (arith, S i a l (omega arith) ki ka, S a b (omega arith) (omega arith) ka kb, S b j w h kb kj)
-
--- what the test of a place decides
-abbrev InReach : (ℕ → ℕ) → ℕ → ℕ → Type 0
-InReach f t p = ((i : ℕ) → i < suc t → p < i → none ≤ f i) × ((i : ℕ) → i < p → t < i → none ≤ f i)
 
 reach_decides : (f : ℕ → ℕ) (t p : ℕ) → Decides (in_reach f t p) (InReach f t p)
 unfolding in_reach
@@ -68,22 +64,6 @@ module _ (f : ℕ → ℕ) (m t : ℕ) where
       after : (p : ℕ) → p < suc m → d < p → in_reach f t p ≡ false
       after p u l = is_false (reach_decides f t p) (λ (R : InReach f t p).
           let x = stop (omega arith) in let y = R.1 d l x.0 in omega (arith, x.1))
-
-  pub counted : t ≤ m → Counted f m t
-  counted inside = record {
-    both = λ a b A B. read_from_to a b (omega (arith, A.before)) (omega (arith, B.after)) B.within A.nearest B.nearest (λ _. A.known) (λ _. (B.after, B.known));
-    to_end = λ a A N. read_from_to a m (omega (arith, A.before)) inside (omega arith) A.nearest (λ i l k. N i l (omega arith)) (λ _. A.known) end;
-    from_start = λ b N B.
-        omega (arith, read_from_to 0 b (omega arith) (omega (arith, B.after)) B.within (λ i l k. N i k) B.nearest start (λ _. (B.after, B.known)));
-    whole_run = λ N K.
-        omega (arith, read_from_to 0 m (omega arith) inside (omega arith) (λ i l k. N i k) (λ i l k. K i l (omega arith)) start end);
-  }
-    where
-      start : 0 < 0 → f 0 < none
-      start l = absurd (let z : ⊥ = omega arith in z)
-
-      end : m < m → (t < m) × (f m < none)
-      end l = absurd (let z : ⊥ = omega arith in z)
 
   module _ (R : ℕ → ℕ → ℕ → Type 0) where
     -- with none on one side there are no two numbers

@@ -9,7 +9,8 @@ use Rattle.mtl.specs.Syntax.{Earlier}
 use Rattle.mtl.specs.Reading.{seen, point, meaning, reading}
 use Rattle.mtl.proofs.Unroll.{reading_past}
 use Rattle.mtl.specs.Plainly.{Dark}
-use Rattle.mtl.proofs.Plainly.{direct, plainly}
+use Rattle.mtl.proofs.Plainly.{plainly}
+use Rattle.mtl.specs.Plainly.{direct}
 use Rattle.policy.specs.declared.Sizes.{Sizes}
 use Rattle.knowledge.specs.Knowledge.{Knowledge, fact, point_known, world}
 

@@ -4,7 +4,7 @@ use Rattle.std.specs.Prelude.{ℕ, zero, suc, ◌+◌, ◌≤◌, ◌<◌, ◌�
 use mathlib.Core.List.{List, Memᴰ}
 use Rattle.mtl.specs.Algebra.{two, any}
 use Rattle.mtl.specs.Reading.{World}
-use Rattle.mtl.proofs.Textbook.{plain}
+use Rattle.mtl.specs.Textbook.{plain}
 use Rattle.policy.specs.declared.Sizes.{Sizes}
 use Rattle.message.specs.Fixes.{Message, FixesNumber, FixesFact}
 

@@ -20,7 +20,7 @@ use Rattle.policy.specs.declared.Sizes.{Sizes}
 use Rattle.policy.specs.Format.{policy_checks, policy_of}
 use Rattle.policy.specs.Format.{answer_of as policy_answer}
 use Rattle.policy.proofs.Ranges.{fails, denies}
-use Rattle.policy.proofs.Causes.{policy_refuses}
+use Rattle.policy.proofs.Answered.{policy_refuses}
 use Rattle.policy.proofs.CheckedFirst.{both_passed, once_accepted, by_policy}
 use Rattle.message.specs.declared.MessageNumbers.{MessageNumbers}
 use Rattle.message.specs.Text.{Observes, Lives, InRange, text_of, alive_good, observation_good, numbers_good, writing_checks, encode_checks, encode_of}

@@ -1,7 +1,6 @@
 -- 02, request 1, a second time: what the reader of the first message answers and hands back, what a single take makes of it, and which byte strings a
 -- packet is made of. Each is pinned by what 02 says of the bytes, and not by how they are read.
-use Rattle.std.specs.Prelude.{ℕ, ◌+◌, ◌≤◌, ◌<◌, ◌≡◌, ◌↔◌, List, [], ◌∷◌, ◌++◌, length, take, drop}
-use Rattle.std.specs.Borrow.{Bor}
+use Rattle.std.specs.Prelude.{ℕ, ◌≤◌, ◌<◌, ◌≡◌, ◌↔◌, List, [], ◌∷◌, ◌++◌, length, take}
 use Rattle.refusal.specs.declared.Refusal.TheVariants.{TruncatedMessage, BadMessage}
 use Rattle.refusal.specs.declared.Answer.TheVariants.{Accepted, Refused}
 use Rattle.policy.specs.declared.Sizes.{Sizes}
@@ -9,10 +8,6 @@ use Rattle.message.specs.declared.Decoded.{Decoded}
 use Rattle.message.specs.declared.Step.{Step}
 use Rattle.message.specs.Format.{length_of, refused_with, decode_of, first_answer, first_of, used_of, rest_of}
 use Rattle.message.specs.Encoded.{IsMessage}
-
--- the part of a slice from its n-th element on, at its own place in the caller's block: no copy
-abbrev pub Part : Bor (List ℕ) → ℕ → Bor (List ℕ) → Type 0
-Part s n r = (r.now ≡ drop n s.now) × (r.ref_ptr ≡ (s.ref_ptr.0, s.ref_ptr.1 + n))
 
 -- what the reader says of the first message, and how many bytes follow it
 abbrev pub step_of : Decoded → List ℕ → Step

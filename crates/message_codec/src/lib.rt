@@ -6,7 +6,8 @@ ghost use Rattle.std.proofs.lemmas.List.Edits.{sets};
 ghost use Rattle.bits.specs.Digits.{below, expanded};
 ghost use Rattle.encoding.specs.Fields.{field8};
 ghost use Rattle.message.specs.Format.{minute_at, number_at, named_at, values_at, value_bytes, packed_at, fields_of, length_of, measured, good_alive, good_observation, good_event, all_written, good_fields, event_in, refused_with, first_of, used_of, rest_of};
-ghost use Rattle.message.specs.Packet.{Part, step_of};
+ghost use Rattle.message.specs.Packet.{step_of};
+ghost use Rattle.message_codec.specs.Packet.{Part};
 ghost use Rattle.refusal.specs.Writes.{Output};
 ghost use Rattle.message.specs.Text.{event_numbers, alive_good, observation_good, kind_good, numbers_good, text_map, fields_part, text_of, encode_under, encode_of};
 

@@ -1,3 +1,4 @@
 pub mod Codes
 pub mod Laws
 pub mod Leaves
+pub mod Pins

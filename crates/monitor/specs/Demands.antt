@@ -6,7 +6,7 @@
 use Rattle.std.specs.Prelude.{ℕ, ◌+◌, ◌*◌, ◌≤◌, ◌<◌, ◌≡◌, Bool, true, false, cond, ◌⊎◌, ◌↔◌, ◌≢◌, get_or, length, take}
 use mathlib.Core.List.{List, [], ◌∷◌, ◌++◌, map, Memᴰ}
 use Rattle.kleene.specs.Truth.{true3, false3, code_of}
-use Rattle.mtl.proofs.Textbook.{Holds}
+use Rattle.mtl.specs.Textbook.{Holds}
 use Rattle.refusal.specs.declared.Refusal.{Refusal}
 use Rattle.refusal.specs.declared.Refusal.TheVariants.{Conflict}
 use Rattle.refusal.specs.declared.Answer.{Answer as Checked}
@@ -39,7 +39,7 @@ use Rattle.reach.specs.Reaches.{rule_reach, rule_reaches}
 use Rattle.reach.specs.Called.{ReachCauses}
 use Rattle.completeness.specs.Complete.{Complete, Every, Named, NoBlanks}
 use Rattle.completeness.specs.Reports.{AllTold}
-use Rattle.completeness.proofs.Reports.{Reports}
+use Rattle.completeness.specs.Reports.{Reports}
 use Rattle.monitor.specs.declared.Answer.{Answer}
 use Rattle.monitor.specs.declared.Answer.TheVariants.{Done, Received, Refused}
 use Rattle.monitor.specs.declared.Verdict.TheVariants.{Unknown, Satisfied, Violated}

@@ -13,24 +13,7 @@ use Rattle.mtl.specs.Abbreviations.{abbreviation}
 use Rattle.mtl.specs.Syntax.{Earlier}
 use Rattle.mtl.specs.Reading.{World, seen, since_start, since_count, after_start, after_count, until_start, until_count, before_start, before_count, point, meets, keeps, since, until, meaning, reading}
 use Rattle.mtl.proofs.Unroll.{unroll, reading_past}
-use Rattle.mtl.specs.Plainly.{Dark}
-
-module _ (w : World Truth) where
-  -- a subformula's value at minute t, from the values of those that it names
-  abbrev pub direct : (ℕ → ℕ → Truth) → Formula → ℕ → Truth
-  direct v True t = true3
-  direct v (Proposition p) t = w.proposition p t
-  direct v (Not i) t = not3 (v i t)
-  direct v (Or i j) t = or3 (v i t) (v j t)
-  direct v (Since i j lower upper) t = since three w (v i) (v j) lower upper t
-  direct v (Until i j lower upper) t = until three w (v i) (v j) lower upper t
-  direct v (And i j) t = and3 (v i t) (v j t)
-  direct v (Implies i j) t = implies3 (v i t) (v j t)
-  -- the or, over j of the interval, of e(j) and α(j); the and, over j of the interval, of (not e(j) or α(j))
-  direct v (Once i lower upper) t = any three (since_start upper t) (since_count lower upper t) (meets three w (v i))
-  direct v (Historically i lower upper) t = keeps three w (v i) (since_start upper t) (since_count lower upper t)
-  direct v (Eventually i lower upper) t = any three (until_start lower t) (until_count lower upper) (meets three w (v i))
-  direct v (Always i lower upper) t = keeps three w (v i) (until_start lower t) (until_count lower upper)
+use Rattle.mtl.specs.Plainly.{Dark, direct}
 
 -- ---- three values by their places in the order of truth
 

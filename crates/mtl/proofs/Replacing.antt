@@ -1,5 +1,5 @@
 -- Laws of the definitions in specs/Replacing. Assumes nothing.
-use Rattle.std.specs.Prelude.{ℕ, zero, suc, ◌+◌, ◌-◌, ◌<◌, ◌≤◌, ◌≡◌, refl, ◌⊎◌, List, [], ◌∷◌, ◌++◌, map, cond, ltb, length}
+use Rattle.std.specs.Prelude.{ℕ, zero, suc, ◌+◌, ◌-◌, ◌<◌, ◌≤◌, ◌≡◌, refl, ◌⊎◌, List, [], ◌∷◌, ◌++◌, map, length}
 use Rattle.std.proofs.Common.{add-zero, zero-add, arith, sym, ap, ap₂, subst, subst₂, ◌∙◌, inl, inr, lt-ltb, le-ltb, length-append, get_or-append-add}
 use Rattle.std.proofs.Math.Decide.{dec_lt, ℕ_discrete}
 use Rattle.std.proofs.lemmas.List.{length-map}
@@ -14,44 +14,7 @@ use Rattle.mtl.specs.Syntax.{Operands, Earlier}
 use Rattle.mtl.specs.Reading.{World, reading}
 use Rattle.mtl.specs.Renumbering.{relabel, Spells, Stands}
 use Rattle.mtl.proofs.Renumbering.{same_rows}
-use Rattle.mtl.specs.Replacing.{Early, at, formed, rename}
-
--- how many lines an expression takes: a leaf none, since it stands already
-abbrev pub size : Expression → ℕ
-size (operand i) = 0
-size true' = 1
-size (proposition' p) = 1
-size (not' x) = suc (size x)
-size (binary k x y) = suc (size x + size y)
-
--- the number of its own line, where its lines start at n
-abbrev pub place : ℕ → Expression → ℕ
-place n (operand i) = i
-place n true' = n
-place n (proposition' p) = n
-place n (not' x) = n + size x
-place n (binary k x y) = n + size x + size y
-
--- its lines from number n on, inner before outer
-abbrev pub lines : ℕ → Expression → List Formula
-lines n (operand i) = []
-lines n true' = True ∷ []
-lines n (proposition' p) = Proposition p ∷ []
-lines n (not' x) = lines n x ++ (Not (place n x) ∷ [])
-lines n (binary k x y) = lines n x ++ lines (n + size x) y ++ (formed k (place n x) (place (n + size x) y) ∷ [])
-
--- numbers below k stay, the others move up by m
-unfoldable pub moved : ℕ → ℕ → ℕ → ℕ
-moved k m i = cond (ltb i k) i (i + m)
-
--- how far: the last of the new lines stands for the old one
-abbrev pub shift : Formula → ℕ
-shift φ = size (abbreviation φ) - 1
-
--- before, φ, after: with φ written out
-abbrev pub replaced : List Formula → Formula → List Formula → List Formula
-replaced before φ after =
-    before ++ (lines (length before) (abbreviation φ) ++ map (rename (moved (length before) (shift φ))) after)
+use Rattle.mtl.specs.Replacing.{Early, at, formed, rename, size, place, lines, moved, shift, replaced}
 
 -- ---- laws
 

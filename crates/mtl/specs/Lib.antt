@@ -9,3 +9,5 @@ pub mod Renumbering
 pub mod Replacing
 pub mod Plainly
 pub mod Knowing
+pub mod Pins
+pub mod Textbook

@@ -16,13 +16,13 @@ use Rattle.policy.specs.Encoded.{RulesIn}
 use Rattle.policy.specs.Format.{count_of, fields_at, good_line, offset, rules_up_to, heading_checks, line_checks, lines_checks, closing_checks, policy_checks, answer_of}
 use Rattle.policy.specs.Proper.{Headed, SomeLine, Fine, FineBefore, Whole, Cause, heading_cut, line_cut, bytes_follow, propositions_out, components_out, minutes_out, lines_out, line_bad, rules_out, Causes}
 use Rattle.policy.proofs.Ranges.{in_between, between_in, not_between, outside, fails, denies}
-use Rattle.policy.proofs.Stands.{line_law}
+use Rattle.policy.proofs.LineLaw.{line_law}
 
 module _ (s : List ℕ) where
-  abbrev lines : List Check
+  abbrev pub lines : List Check
   lines = lines_checks s (count_of s)
 
-  abbrev closing : List Check
+  abbrev pub closing : List Check
   closing = closing_checks (length s) (offset s (count_of s)) (rules_up_to s (count_of s))
 
   -- ---- where in the list a refusal stands
@@ -103,7 +103,7 @@ module _ (s : List ℕ) where
 
   -- ---- from a cause to its refusal, and back
 
-  refuses : (r : Refusal) → Cause s r → Refuses (policy_checks s) r
+  pub refuses : (r : Refusal) → Cause s r → Refuses (policy_checks s) r
   unfolding heading_checks line_checks closing_checks
   refuses r (heading_cut h) = no_heading h
   refuses r (line_cut i h l f c) = in_lines h.long (heading_passes h) _ (refused_line i (count_of s) _ l (lines_pass i f) (here (lt-leb _ _ c)))
@@ -119,13 +119,13 @@ module _ (s : List ℕ) where
   refuses r (rules_out w n) =
       in_closing w.headed.long (heading_passes w.headed) _ (lines_pass (count_of s) w.lines) (there (eq-eqb _ _ w.ends) (here (outside _ _ _ n)))
 
-  passes : Whole s × RulesIn (rules_up_to s (count_of s)) → Passed (policy_checks s)
+  pub passes : Whole s × RulesIn (rules_up_to s (count_of s)) → Passed (policy_checks s)
   unfolding closing_checks
   passes w =
       let h = w.0.headed in
       to_the_end h.long (heading_passes h) (lines_pass (count_of s) w.0.lines) (pass (eq-eqb _ _ w.0.ends) (pass (between_in _ _ _ w.1) none))
 
-  of_heading : (r : Refusal) → 5 ≤ length s → Refuses (heading_checks s) r → Cause s r
+  pub of_heading : (r : Refusal) → 5 ≤ length s → Refuses (heading_checks s) r → Cause s r
   unfolding heading_checks
   of_heading r h (there a (there b (there c (there _ x20)))) = elim x20 [ ]
   of_heading r h (here a) = propositions_out h (not_between _ _ _ a)
@@ -140,7 +140,7 @@ module _ (s : List ℕ) where
     of_line i r l p (here c) = line_cut i h l (all_fine i p) (leb-false _ _ c)
     of_line i r l p (there e (here g)) = line_bad i h l (all_fine i p) (leb-true _ _ e) (denies _ (line_test i) g)
 
-    of_lines : (n : ℕ) (r : Refusal) → n ≤ count_of s → Refuses (lines_checks s n) r → Cause s r
+    pub of_lines : (n : ℕ) (r : Refusal) → n ≤ count_of s → Refuses (lines_checks s n) r → Cause s r
     unfolding lines_checks
     of_lines zero r l q = elim q [ ]
     of_lines (suc n) r l q =
@@ -152,7 +152,7 @@ module _ (s : List ℕ) where
     inside zero l f = absurd (omega arith)
     inside (suc n) l f = (f n (omega arith)).0
 
-    of_closing : (r : Refusal) → Passed lines → Refuses closing r → Cause s r
+    pub of_closing : (r : Refusal) → Passed lines → Refuses closing r → Cause s r
     unfolding closing_checks
     of_closing r p (there e (there _ x12)) = elim x12 [ ]
     of_closing r p (here e) =
@@ -161,59 +161,9 @@ module _ (s : List ℕ) where
     of_closing r p (there e (here n)) = rules_out (record { headed = h; lines = all_fine (count_of s) p; ends = eqb-true _ _ e }) (not_between _ _ _ n)
 
     -- every test passed
-    of_passed : Passed (lines ++ closing) → Whole s × RulesIn (rules_up_to s (count_of s))
+    pub of_passed : Passed (lines ++ closing) → Whole s × RulesIn (rules_up_to s (count_of s))
     unfolding closing_checks
     of_passed q = let c = passed_parts lines closing q in go c.0 c.1
       where
         go : Passed lines → Passed closing → Whole s × RulesIn (rules_up_to s (count_of s))
         go l (pass e (pass r none)) = (record { headed = h; lines = all_fine (count_of s) l; ends = eqb-true _ _ e }, in_between _ _ _ r)
-
-  cause : (r : Refusal) → Refuses (policy_checks s) r → Cause s r
-  unfolding policy_checks
-  cause r (here h) = heading_cut (leb-false _ _ h)
-  cause r (there h q) =
-      let l = leb-true 5 (length s) h in
-      ⊎_elim (of_heading r l)
-      (λ (p : Passed (heading_checks s) × Refuses (lines ++ closing) r).
-      let g = headed l p.0 in
-      ⊎_elim (of_lines g (count_of s) r (omega arith)) (λ (q : Passed lines × Refuses closing r). of_closing g r q.0 q.1) (refused_where lines closing r p.1))
-      (refused_where (heading_checks s) (lines ++ closing) r q)
-
-  whole : Passed (policy_checks s) → Whole s × RulesIn (rules_up_to s (count_of s))
-  unfolding policy_checks
-  whole (pass h q) = let p = passed_parts (heading_checks s) (lines ++ closing) q in of_passed (headed (leb-true 5 (length s) h) p.0) p.1
-
-  -- ---- the causes
-
-  pub refused : (r : Refusal) → (answer_of s ≡ Refused r) ↔ Cause s r
-  unfolding answer_of
-  refused r = (λ e. cause r ((refusal_law (policy_checks s) r).0 e), λ c. (refusal_law (policy_checks s) r).1 (refuses r c))
-
-  pub causes : Causes s
-  unfolding answer_of
-  causes =
-      record {
-        one = λ at. refused (TruncatedPolicy at);
-        two = λ at. refused (BadHeading at);
-        three = λ at. refused (BadSubformula at);
-        four = (λ e. rules_told ((refused RuleCount).0 e), λ w. (refused RuleCount).1 (rules_out w.0 w.1));
-        accepted = (λ e. whole ((passing_law (policy_checks s)).0 e), λ w. (passing_law (policy_checks s)).1 (passes w));
-      }
-    where
-      rules_told : Cause s RuleCount → Whole s × (RulesIn (rules_up_to s (count_of s)) → ⊥)
-      rules_told (rules_out w n) = (w, n)
-
-  -- the policy's reader answers 1 to 4 only
-  pub policy_refuses : (r : Refusal) → Refuses (policy_checks s) r → (1 ≤ refusal_number r) × (refusal_number r ≤ 4)
-  policy_refuses r q = go r (cause r q)
-    where
-      go : (r : Refusal) → Cause s r → (1 ≤ refusal_number r) × (refusal_number r ≤ 4)
-      go r (heading_cut h) = omega arith
-      go r (line_cut i h l f c) = omega arith
-      go r (bytes_follow h f m) = omega arith
-      go r (propositions_out h a) = omega arith
-      go r (components_out h a b) = omega arith
-      go r (minutes_out h a b c) = omega arith
-      go r (lines_out h a b c d) = omega arith
-      go r (line_bad i h l f e g) = omega arith
-      go r (rules_out w n) = omega arith

@@ -12,7 +12,7 @@ use Rattle.refusal.specs.Checks.{Check, first_failed, and_then, Passed, Refuses,
 use Rattle.refusal.proofs.Laws.{in_order, number_law, passing_law, refused_before, refused_after, passed_both, passed_parts}
 use Rattle.refusal.specs.Writes.{written}
 use Rattle.policy.specs.Format.{policy_checks, answer_of}
-use Rattle.policy.proofs.Causes.{policy_refuses}
+use Rattle.policy.proofs.Answered.{policy_refuses}
 
 module _ (s : List ℕ) (later : List Check) where
   abbrev pub checked_first : List Check

@@ -30,32 +30,6 @@ are_zero k a b l u e =
     zero_unless false n e f = eqb-true n 0 e
 
 module _ {m i : ℕ} where
-  -- kind 6 and above
-  from_six : (kind a b lower upper : ℕ) (x : Formula) → Keeps m i (suc (suc (suc (suc (suc (suc kind)))))) a b lower upper x
-      → IsLine m i (suc (suc (suc (suc (suc (suc kind)))))) a b lower upper x
-  unfolding meaning
-  from_six zero a b l u x k =
-      let z = are_zero (kind_of 6) a b l u k.zero_else in
-      let o = both (ltb a i) (ltb b i) k.operands in
-      rw (k.means, z.no_lower refl, z.no_upper refl) (is_and a b (ltb-true a i o.0) (ltb-true b i o.1))
-  from_six (suc zero) a b l u x k =
-      let z = are_zero (kind_of 7) a b l u k.zero_else in
-      let o = both (ltb a i) (ltb b i) k.operands in
-      rw (k.means, z.no_lower refl, z.no_upper refl) (is_implies a b (ltb-true a i o.0) (ltb-true b i o.1))
-  from_six (suc (suc zero)) a b l u x k =
-      let z = are_zero (kind_of 8) a b l u k.zero_else in
-      rw (k.means, z.no_second refl) (is_once a l u (ltb-true a i k.operands) k.ordered k.bounded)
-  from_six (suc (suc (suc zero))) a b l u x k =
-      let z = are_zero (kind_of 9) a b l u k.zero_else in
-      rw (k.means, z.no_second refl) (is_historically a l u (ltb-true a i k.operands) k.ordered k.bounded)
-  from_six (suc (suc (suc (suc zero)))) a b l u x k =
-      let z = are_zero (kind_of 10) a b l u k.zero_else in
-      rw (k.means, z.no_second refl) (is_eventually a l u (ltb-true a i k.operands) k.ordered k.bounded)
-  from_six (suc (suc (suc (suc (suc zero))))) a b l u x k =
-      let z = are_zero (kind_of 11) a b l u k.zero_else in
-      rw (k.means, z.no_second refl) (is_always a l u (ltb-true a i k.operands) k.ordered k.bounded)
-  from_six (suc (suc (suc (suc (suc (suc kind)))))) a b l u x k = absurd (omega (arith, k.known))
-
   pub is_a_line : (kind a b lower upper : ℕ) (x : Formula) → Keeps m i kind a b lower upper x → IsLine m i kind a b lower upper x
   unfolding meaning
   is_a_line zero a b l u x k =
@@ -77,7 +51,27 @@ module _ {m i : ℕ} where
   is_a_line (suc (suc (suc (suc (suc zero))))) a b l u x k =
       let o = both (ltb a i) (ltb b i) k.operands in
       rw k.means (is_until a b l u (ltb-true a i o.0) (ltb-true b i o.1) k.ordered k.bounded)
-  is_a_line (suc (suc (suc (suc (suc (suc kind)))))) a b l u x k = from_six kind a b l u x k
+  is_a_line (suc (suc (suc (suc (suc (suc zero)))))) a b l u x k =
+      let z = are_zero (kind_of 6) a b l u k.zero_else in
+      let o = both (ltb a i) (ltb b i) k.operands in
+      rw (k.means, z.no_lower refl, z.no_upper refl) (is_and a b (ltb-true a i o.0) (ltb-true b i o.1))
+  is_a_line (suc (suc (suc (suc (suc (suc (suc zero))))))) a b l u x k =
+      let z = are_zero (kind_of 7) a b l u k.zero_else in
+      let o = both (ltb a i) (ltb b i) k.operands in
+      rw (k.means, z.no_lower refl, z.no_upper refl) (is_implies a b (ltb-true a i o.0) (ltb-true b i o.1))
+  is_a_line (suc (suc (suc (suc (suc (suc (suc (suc zero)))))))) a b l u x k =
+      let z = are_zero (kind_of 8) a b l u k.zero_else in
+      rw (k.means, z.no_second refl) (is_once a l u (ltb-true a i k.operands) k.ordered k.bounded)
+  is_a_line (suc (suc (suc (suc (suc (suc (suc (suc (suc zero))))))))) a b l u x k =
+      let z = are_zero (kind_of 9) a b l u k.zero_else in
+      rw (k.means, z.no_second refl) (is_historically a l u (ltb-true a i k.operands) k.ordered k.bounded)
+  is_a_line (suc (suc (suc (suc (suc (suc (suc (suc (suc (suc zero)))))))))) a b l u x k =
+      let z = are_zero (kind_of 10) a b l u k.zero_else in
+      rw (k.means, z.no_second refl) (is_eventually a l u (ltb-true a i k.operands) k.ordered k.bounded)
+  is_a_line (suc (suc (suc (suc (suc (suc (suc (suc (suc (suc (suc zero))))))))))) a b l u x k =
+      let z = are_zero (kind_of 11) a b l u k.zero_else in
+      rw (k.means, z.no_second refl) (is_always a l u (ltb-true a i k.operands) k.ordered k.bounded)
+  is_a_line (suc (suc (suc (suc (suc (suc (suc (suc (suc (suc (suc (suc kind)))))))))))) a b l u x k = absurd (omega (arith, k.known))
 
   pub keeps : (kind a b lower upper : ℕ) (x : Formula) → IsLine m i kind a b lower upper x → Keeps m i kind a b lower upper x
   unfolding meaning

@@ -18,7 +18,7 @@ use Rattle.policy.proofs.KindLaws.{earlier_operands, its_proposition, its_interv
 use Rattle.policy.specs.Proper.{Proper, formula_at}
 use Rattle.policy.proofs.ReadLaws.{accepts, reads}
 use Rattle.policy.proofs.Table.{table_length, past_lines, rules_counted}
-pub use Rattle.policy.proofs.Causes.{causes}
+pub use Rattle.policy.proofs.Answered.{causes}
 
 -- what holds of each line, and of the padding, holds all over the table
 by_lines : (s : List ℕ) (p : IsPolicy s) (P : ℕ → Formula → Type 0) → ((i : ℕ) → P i F.True) → ((i : ℕ) → i < count_of s → P i (p.lines i).formula)

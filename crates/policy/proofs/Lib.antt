@@ -1,8 +1,10 @@
+pub mod Answered
 pub mod Causes
 pub mod CheckedFirst
 pub mod Examples
 pub mod KindLaws
 pub mod Laws
+pub mod LineLaw
 pub mod Ranges
 pub mod ReadPolicy
 pub mod ReadLaws

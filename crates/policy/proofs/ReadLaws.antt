@@ -13,9 +13,10 @@ use Rattle.policy.specs.Encoded.{RulesIn, Line, widths, numbers, LineAt, rules_i
 use Rattle.policy.specs.Format.{line_length, fields_at, subformula_of, subformula_at, count_of, offset, no_line, rules_up_to, answer_of, policy_of}
 use Rattle.policy.specs.Proper.{Whole}
 use Rattle.policy.proofs.Ranges.{never_falls}
-use Rattle.policy.proofs.Stands.{line_of, only}
+use Rattle.policy.proofs.Stands.{only}
+use Rattle.policy.specs.Stands.{line_of}
 use Rattle.policy.proofs.Table.{line_at}
-use Rattle.policy.proofs.Causes.{causes}
+use Rattle.policy.proofs.Answered.{causes}
 
 module _ (s : List ℕ) where
   -- ---- accepted bytes are a card

@@ -9,12 +9,12 @@ use Rattle.encoding.specs.Fields.{has, written}
 use Rattle.encoding.specs.Layout.{field, Laid}
 use Rattle.encoding.proofs.Laws.{is_written, laid_field, fields_laid}
 use Rattle.logic.proofs.Bools.{both, pair}
-use Rattle.policy.specs.declared.Fields.{Fields}
 use Rattle.policy.specs.declared.Kind.{Kind}
 use Rattle.policy.specs.Encoded.{Line, widths, numbers, LineAt}
 use Rattle.policy.specs.Format.{fields_at, kinds, kind_of, allowed, keeps_kind, good_line, formula_of}
 use Rattle.policy.specs.Kinds.{zeros, Keeps}
 use Rattle.policy.proofs.KindLaws.{is_a_line, keeps}
+use Rattle.policy.specs.Stands.{line_of}
 
 -- a bit that doesn't stand is a number that is 0
 absent : (b : Bool) (n : ℕ) → (b ≡ true) ↔ (n ≢ 0) → not b ≡ eqb n 0
@@ -41,11 +41,6 @@ five P a b c d e (suc (suc (suc zero))) h = d
 five P a b c d e (suc (suc (suc (suc zero)))) h = e
 five P a b c d e (suc (suc (suc (suc (suc k))))) h = absurd (omega arith)
 
--- the line that the fields make
-abbrev pub line_of : Fields → Line
-line_of f =
-    record { kind = f.kind; first = f.first; second = f.second; lower = f.lower; upper = f.upper; rule = has f.map 5; formula = formula_of f }
-
 module _ (s : List ℕ) (m i at : ℕ) where
   abbrev map : ℕ
   map = get_or s at 0
@@ -65,7 +60,7 @@ module _ (s : List ℕ) (m i at : ℕ) where
       no_field false = refl
 
   -- a line that passes its tests stands there
-  stands : good_line m i (fields_at s at) ≡ true → LineAt s m i at (line_of (fields_at s at))
+  pub stands : good_line m i (fields_at s at) ≡ true → LineAt s m i at (line_of (fields_at s at))
   unfolding good_line keeps_kind fields_at formula_of
   stands good =
       let f = fields_at s at in
@@ -106,7 +101,7 @@ module _ (s : List ℕ) (m i at : ℕ) where
         rw (read 0 (omega arith), read 1 (omega arith), read 2 (omega arith), read 3 (omega arith), read 4 (omega arith))
 
     -- a line that stands there passes its tests
-    passes : good_line m i (fields_at s at) ≡ true
+    pub passes : good_line m i (fields_at s at) ≡ true
     unfolding good_line keeps_kind
     passes =
         let bits = t.laid.bits in
@@ -129,6 +124,3 @@ module _ (s : List ℕ) (m i at : ℕ) where
     pub only : l ≡ line_of (fields_at s at)
     unfolding formula_of
     only = rw (its_fields, kept.means, t.rule)
-
-  pub line_law : (good_line m i (fields_at s at) ≡ true) ↔ ((l : Line) × LineAt s m i at l)
-  line_law = (λ e. (line_of (fields_at s at), stands e), λ l. passes l.0 l.1)

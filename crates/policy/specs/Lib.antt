@@ -8,3 +8,4 @@ pub mod Proper
 pub mod ReadPolicy
 pub mod Text
 pub mod Written
+pub mod Stands

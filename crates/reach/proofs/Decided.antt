@@ -14,7 +14,7 @@ use Rattle.mtl.proofs.Unroll.{unroll}
 use Rattle.reach.specs.Reach.{reach}
 use Rattle.reach.specs.Laws.{ahead_of, expression_reach}
 use Rattle.reach.proofs.Laws.{spelled, unroll_reach}
-use Rattle.reach.specs.Decided.{Atoms, CompleteWorld, Decided, it_is, it_is_not}
+use Rattle.reach.specs.Decided.{Atoms, CompleteWorld, Decided, it_is, it_is_not, Within}
 
 not_decided : {x : Truth} → Decided x → Decided (not3 x)
 not_decided it_is = it_is_not
@@ -70,20 +70,16 @@ module _ (w : World Truth) (m : ℕ) (P : ℕ → Type 0) (c : CompleteWorld w m
   point_decided : (t : ℕ) → t < m → Decided (point three w t)
   point_decided t h = shown_decided t (w.time_point t) h (c.points t h)
 
-  -- α is decided at each time point from which r minutes ahead are below m
-  abbrev pub Within : ℕ → (ℕ → Truth) → Type 0
-  Within r α = (t : ℕ) → t + r < m → point three w t ≡ true3 → Decided (α t)
-
   -- e(j) and β(j); and for all s of some minutes, (not e(s) or α(s))
-  meets_decided : (r : ℕ) (β : ℕ → Truth) → Within r β → (j : ℕ) → j + r < m → Decided (meets three w β j)
+  meets_decided : (r : ℕ) (β : ℕ → Truth) → Within w m P c r β → (j : ℕ) → j + r < m → Decided (meets three w β j)
   meets_decided r β h j l = meet_decided (β j) (point_decided j (omega arith)) (h j l)
 
-  keeps_decided : (r : ℕ) (α : ℕ → Truth) → Within r α → (lo n : ℕ) → ((s : ℕ) → lo ≤ s → s < lo + n → s + r < m) → Decided (keeps three w α lo n)
+  keeps_decided : (r : ℕ) (α : ℕ → Truth) → Within w m P c r α → (lo n : ℕ) → ((s : ℕ) → lo ≤ s → s < lo + n → s + r < m) → Decided (keeps three w α lo n)
   keeps_decided r α h lo n l =
       fold_decided (meet three) (λ x y a b. meet_decided y a (λ _. b)) it_is lo n
       (λ s a b. let k : s + r < m = l s a b in implies_decided (α s) (point_decided s (omega arith)) (h s k))
 
-  combined_decided : (k : Binary) (q r : ℕ) (α β : ℕ → Truth) → Within q α → Within r β → Within (max q r + ahead_of k) (combined three w k α β)
+  combined_decided : (k : Binary) (q r : ℕ) (α β : ℕ → Truth) → Within w m P c q α → Within w m P c r β → Within w m P c (max q r + ahead_of k) (combined three w k α β)
   unfolding since until
   combined_decided either q r α β f g t l e = or_decided (f t (omega arith) e) (g t (omega arith) e)
   combined_decided (back lower upper) q r α β f g t l e =
@@ -97,8 +93,8 @@ module _ (w : World Truth) (m : ℕ) (P : ℕ → Type 0) (c : CompleteWorld w m
       let there : j ≤ t + upper = omega arith in
       meet_decided _ (meets_decided r β g j (omega arith)) (λ _. keeps_decided q α f (before_start t) (before_count j t) (λ s x y. omega arith)))
 
-  meaning_decided : (r : ℕ → ℕ) (v : ℕ → ℕ → Truth) (x : Expression) → Atoms P x → Leaves (λ i. Within (r i) (v i)) x
-      → Within (expression_reach r x) (meaning three w v x)
+  meaning_decided : (r : ℕ → ℕ) (v : ℕ → ℕ → Truth) (x : Expression) → Atoms P x → Leaves (λ i. Within w m P c (r i) (v i)) x
+      → Within w m P c (expression_reach r x) (meaning three w v x)
   meaning_decided r v (operand i) p h t l e = h t l e
   meaning_decided r v true' p h t l e = shown_decided t true3 (omega arith) it_is
   meaning_decided r v (proposition' i) p h t l e =
@@ -111,7 +107,7 @@ module _ (w : World Truth) (m : ℕ) (P : ℕ → Type 0) (c : CompleteWorld w m
 
   -- each of the first n lines, which name propositions of P only
   module _ (line : ℕ → Formula) (earlier : Earlier line) (n : ℕ) (names : (l p : ℕ) → l < n → line l ≡ Proposition p → P p) where
-    below : (d k : ℕ) → k < d → k < n → Within (reach line k) (reading three w line k)
+    below : (d k : ℕ) → k < d → k < n → Within w m P c (reach line k) (reading three w line k)
     below zero k h u t l e = absurd (omega arith)
     below (suc d) k h u t l e =
         subst Decided (sym (unroll three w line earlier k t))
@@ -119,5 +115,5 @@ module _ (w : World Truth) (m : ℕ) (P : ℕ → Type 0) (c : CompleteWorld w m
         (leaves_map (abbreviation (line k)) (λ j i. below d j (omega arith) (omega arith)) (earlier k)) t
         (rw (unroll_reach line earlier k ∙ spelled (reach line) (line k)) at l) e)
 
-    pub decided_within : (k : ℕ) → k < n → Within (reach line k) (reading three w line k)
+    pub decided_within : (k : ℕ) → k < n → Within w m P c (reach line k) (reading three w line k)
     decided_within k u = below (suc k) k (omega arith) u

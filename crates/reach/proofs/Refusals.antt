@@ -21,7 +21,7 @@ use Rattle.policy.specs.declared.Policy.{Policy}
 use Rattle.policy.specs.Format.{policy_checks, policy_of, answer_of}
 use Rattle.policy.specs.Proper.{Proper, formula_at, rules_of}
 use Rattle.policy.proofs.Laws.{accepted}
-use Rattle.policy.proofs.Causes.{policy_refuses}
+use Rattle.policy.proofs.Answered.{policy_refuses}
 use Rattle.policy.proofs.CheckedFirst.{checked_first, both_passed, once_accepted, by_policy}
 use Rattle.policy.proofs.RuleLines.{rule_below}
 use Rattle.reach.proofs.Laws.{small_reach}

@@ -1,10 +1,11 @@
 -- Where every minute is known to be a time point or none, and the propositions are known at the time points, a line is decided at each time point from
 -- which its reach stays below the end. By induction on the line: a since looks back, where everything is known; an until looks at most upper minutes ahead,
 -- and its operands from there. What a line is at other minutes counts for nothing, since e lets only time points through.
-use Rattle.std.specs.Prelude.{ℕ, ◌<◌, ◌≡◌, true}
+use Rattle.std.specs.Prelude.{ℕ, ◌+◌, ◌<◌, ◌≡◌, true}
 use Rattle.kleene.specs.Truth.{Truth, true3, false3}
 use Rattle.mtl.specs.Abbreviations.{Expression, operand, true', proposition', not', binary}
-use Rattle.mtl.specs.Reading.{World}
+use Rattle.mtl.specs.Algebra.{three}
+use Rattle.mtl.specs.Reading.{World, point}
 
 -- the value is not unknown
 pub data Decided : Truth → Type 0 where
@@ -24,3 +25,8 @@ pub record CompleteWorld (w : World Truth) (m : ℕ) (P : ℕ → Type 0) : Type
   pub seen_all : (t : ℕ) → t < m → w.window t ≡ true
   pub points : (t : ℕ) → t < m → Decided (w.time_point t)
   pub propositions : (p t : ℕ) → P p → t < m → w.time_point t ≡ true3 → Decided (w.proposition p t)
+
+module _ (w : World Truth) (m : ℕ) (P : ℕ → Type 0) (c : CompleteWorld w m P) where
+  -- α is decided at each time point from which r minutes ahead are below m
+  abbrev pub Within : ℕ → (ℕ → Truth) → Type 0
+  Within r α = (t : ℕ) → t + r < m → point three w t ≡ true3 → Decided (α t)

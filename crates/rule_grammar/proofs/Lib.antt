@@ -4,7 +4,6 @@ pub mod BracketLaws
 pub mod Decided
 pub mod Examples
 pub mod Intervals
-pub mod Means
 pub mod Numbers
 pub mod Numeral
 pub mod PlaceLaws

@@ -7,10 +7,10 @@ use Rattle.std.proofs.Math.Seq.{get_or-append_seam}
 use Rattle.mtl.specs.declared.Formula.{Formula}
 use Rattle.mtl.specs.declared.Formula.TheVariants.{True as Always, Proposition, Not as Negation}
 use Rattle.mtl.specs.Syntax.{Operands, Proposes, Bounded}
-use Rattle.mtl.proofs.Textbook.{Says, HoldsDeep, Holds}
+use Rattle.mtl.specs.Textbook.{Says, HoldsDeep, Holds}
 use Rattle.rule_grammar.specs.Term.{Joint, Or, And, Since, Until, Term, True, Mark, Not, Group}
 use Rattle.rule_grammar.specs.Lines.{inner, terms, joined, lines}
-use Rattle.rule_grammar.proofs.Means.{Joins, Means}
+use Rattle.rule_grammar.specs.Means.{Joins, Means}
 use Rattle.rule_grammar.specs.Watched.{Fair, PolicyLines, Within, line_of}
 
 -- P holds of each line of a list whose first has number k

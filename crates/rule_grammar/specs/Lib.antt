@@ -16,3 +16,4 @@ pub mod Tests
 pub mod TestLaws
 pub mod Answers
 pub mod Watched
+pub mod Means

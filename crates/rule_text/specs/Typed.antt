@@ -9,7 +9,7 @@ use Rattle.refusal.specs.Checks.{RefusedWith}
 use Rattle.refusal.specs.Writes.{Output, reply}
 use Rattle.mtl.specs.Algebra.{two}
 use Rattle.mtl.specs.Reading.{reading}
-use Rattle.mtl.proofs.Textbook.{plain}
+use Rattle.mtl.specs.Textbook.{plain}
 use Rattle.policy.specs.Encoded.{PropositionsIn, ComponentsIn, MinutesIn}
 use Rattle.policy.specs.Format.{answer_of, policy_of}
 use Rattle.policy.specs.Proper.{formula_at, rules_of}
@@ -17,7 +17,7 @@ use Rattle.policy.specs.Text.{InRange, text_of}
 use Rattle.rule_grammar.specs.Term.{Term, looks}
 use Rattle.rule_grammar.specs.Lines.{inner, terms}
 use Rattle.rule_grammar.specs.Watched.{line_of}
-use Rattle.rule_grammar.proofs.Means.{Means}
+use Rattle.rule_grammar.specs.Means.{Means}
 use Rattle.rule_grammar.specs.Places as P
 use Rattle.rule_text.specs.Compiled.{rule_policy, compile_of}
 

@@ -1,6 +1,6 @@
 -- What a term means, on terms directly: the clauses of `Says` (mtl, Textbook) with terms for line numbers. "And" is both.
 use Rattle.std.specs.Prelude.{ℕ, ◌≡◌, Bool, true, ◌⊎◌}
-use Rattle.mtl.proofs.Textbook.{SinceHolds, UntilHolds}
+use Rattle.mtl.specs.Textbook.{SinceHolds, UntilHolds}
 use Rattle.rule_grammar.specs.Term.{Joint, Or, And, Since, Until, Term, True, Mark, Not, Group}
 
 module _ (time_point : ℕ → Bool) (proposition : ℕ → ℕ → Bool) where
