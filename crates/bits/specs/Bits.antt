@@ -1,5 +1,5 @@
 -- The binary digits of a number. Assumes nothing.
-use Rattle.std.specs.Prelude.{ℕ, ◌-◌, ◌/◌, ◌%◌, ◌^◌, Bool, eqb}
+use Rattle.std.specs.Prelude.{ℕ, ◌/◌, ◌%◌, ◌^◌, Bool, eqb}
 
 -- digit k of n
 unfoldable pub bit : ℕ → ℕ → Bool

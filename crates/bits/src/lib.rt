@@ -1,1 +1,3 @@
+#![tactic(auto)]
+
 // The binary digits of a number: definitions and laws only.

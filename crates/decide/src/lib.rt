@@ -1,1 +1,3 @@
+#![tactic(auto)]
+
 // Tests and what they decide: definitions and laws only.

@@ -1,5 +1,5 @@
 -- Laws of the definitions in specs/Examples. Assumes nothing.
-use Rattle.std.specs.Prelude.{refl, []}
+use Rattle.std.specs.Prelude.{refl}
 use Rattle.bits.specs.Digits.{digit, below, expanded, gathered}
 use Rattle.message.specs.Format.{component_of, minute_of, number_of, named_of, packed_of, fields_of, length_of, good_alive, good_observation, all_written, good_fields, event_in, answer_of, decode_of, first_answer, first_of, used_of, messages_of}
 use Rattle.message.specs.Text.{text_of, numbers_good, writing_checks, encode_under}

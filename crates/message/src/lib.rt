@@ -1,4 +1,6 @@
 // The message (01: the slip): what it says, its fields, and the numbers from which it is written. `message_codec` reads and writes it.
+#![tactic(auto)]
+
 use refusal::Answer;
 
 // What a component reports (01: an observation, or an alive slip), with its minute and its sequence number (01: count).

@@ -1,5 +1,5 @@
 -- Computed cases that pin the reading: each fails for a wrong reading that the theorems alone would let pass.
-use Rattle.std.specs.Prelude.{refl, []}
+use Rattle.std.specs.Prelude.{refl}
 use Rattle.mtl.specs.Reading.{since, until, deep, reading}
 use Rattle.mtl.specs.Replacing.{moved}
 use Rattle.mtl.specs.Pins.{Pins}

@@ -1,5 +1,5 @@
 -- Laws of the definitions in specs/Renumbering. Assumes nothing.
-use Rattle.std.specs.Prelude.{ℕ, zero, suc, ◌<◌, ◌≡◌, refl, ◌⊎◌}
+use Rattle.std.specs.Prelude.{ℕ, zero, suc, ◌<◌, ◌≡◌, refl}
 use Rattle.std.proofs.Common.{arith, sym, ap, ◌∙◌, ⊎_elim}
 use Rattle.mtl.specs.declared.Formula.{Formula}
 use Rattle.mtl.specs.Algebra.{Algebra}

@@ -1,4 +1,5 @@
 // Metric temporal logic (source document 001, section 2). Here the type of a subformula; its meaning is in specs/.
+#![tactic(auto)]
 
 // One subformula (01: the meaning of a line). An operand is the number of an earlier subformula; an interval's bounds are minutes.
 #[derive(Clone, Copy)]

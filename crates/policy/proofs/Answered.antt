@@ -9,7 +9,7 @@ use Rattle.refusal.specs.declared.Refusal.{Refusal}
 use Rattle.refusal.specs.declared.Refusal.TheVariants.{TruncatedPolicy, BadHeading, BadSubformula, RuleCount}
 use Rattle.refusal.specs.declared.Answer.TheVariants.{Refused}
 use Rattle.refusal.specs.Numbers.{refusal_number}
-use Rattle.refusal.specs.Checks.{Passed, none, pass, Refuses, here, there}
+use Rattle.refusal.specs.Checks.{Passed, pass, Refuses, here, there}
 use Rattle.refusal.proofs.Laws.{refusal_law, passing_law, refused_where, passed_parts}
 use Rattle.policy.specs.Encoded.{RulesIn}
 use Rattle.policy.specs.Format.{count_of, rules_up_to, heading_checks, policy_checks, answer_of}

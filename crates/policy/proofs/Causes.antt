@@ -7,14 +7,12 @@ use Rattle.std.proofs.Math.Logic.{⊎_elim}
 use borrow.Author.Tests.{leb-true, leb-false, le-leb, lt-leb, eqb-true, eqb-false, eq-eqb, ne_eqb}
 use Rattle.std.proofs.Math.ListN.{length}
 use Rattle.refusal.specs.declared.Refusal.{Refusal}
-use Rattle.refusal.specs.declared.Refusal.TheVariants.{TruncatedPolicy, BadHeading, BadSubformula, RuleCount}
-use Rattle.refusal.specs.declared.Answer.TheVariants.{Refused}
-use Rattle.refusal.specs.Numbers.{refusal_number}
+use Rattle.refusal.specs.declared.Refusal.TheVariants.{TruncatedPolicy}
 use Rattle.refusal.specs.Checks.{Check, Passed, none, pass, Refuses, here, there}
-use Rattle.refusal.proofs.Laws.{refusal_law, passing_law, refused_first, refused_later, refused_where, passed_both, passed_parts}
+use Rattle.refusal.proofs.Laws.{refused_first, refused_later, refused_where, passed_both, passed_parts}
 use Rattle.policy.specs.Encoded.{RulesIn}
-use Rattle.policy.specs.Format.{count_of, fields_at, good_line, offset, rules_up_to, heading_checks, line_checks, lines_checks, closing_checks, policy_checks, answer_of}
-use Rattle.policy.specs.Proper.{Headed, SomeLine, Fine, FineBefore, Whole, Cause, heading_cut, line_cut, bytes_follow, propositions_out, components_out, minutes_out, lines_out, line_bad, rules_out, Causes}
+use Rattle.policy.specs.Format.{count_of, fields_at, good_line, offset, rules_up_to, heading_checks, line_checks, lines_checks, closing_checks, policy_checks}
+use Rattle.policy.specs.Proper.{Headed, SomeLine, Fine, FineBefore, Whole, Cause, heading_cut, line_cut, bytes_follow, propositions_out, components_out, minutes_out, lines_out, line_bad, rules_out}
 use Rattle.policy.proofs.Ranges.{in_between, between_in, not_between, outside, fails, denies}
 use Rattle.policy.proofs.LineLaw.{line_law}
 

@@ -1,5 +1,5 @@
 -- Laws of the definitions in specs/Examples. Assumes nothing.
-use Rattle.std.specs.Prelude.{refl, []}
+use Rattle.std.specs.Prelude.{refl}
 use Rattle.policy.specs.Format.{line_length, fields_at, keeps_kind, good_line, meaning, formula_of, subformula_of, subformula_at, offset, heading_checks, line_checks, lines_checks, lines_up_to, subformulas_of, rules_up_to, closing_checks, policy_checks, answer_of, policy_of}
 use Rattle.policy.specs.Text.{line_text, lines_text, text_of, line_good, lines_good, encode_checks, encode_of}
 use Rattle.policy.specs.Examples.{EveryKind, EveryNumber}

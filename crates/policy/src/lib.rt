@@ -1,5 +1,7 @@
 // The policy (01: the card): its sizes, its subformulas and which of them are rules, and the numbers from which it is written. `policy_codec` reads and
 // writes it.
+#![tactic(auto)]
+
 use mtl::Formula;
 use refusal::Answer;
 

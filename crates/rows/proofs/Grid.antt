@@ -1,5 +1,5 @@
 -- Laws of the definitions in specs/Grid. Assumes nothing.
-use Rattle.std.specs.Prelude.{ℕ, zero, suc, ◌+◌, ◌-◌, ◌*◌, ◌/◌, ◌%◌, ◌≤◌, ◌<◌, ◌≡◌, refl, [], get_or, length}
+use Rattle.std.specs.Prelude.{ℕ, zero, suc, ◌+◌, ◌*◌, ◌/◌, ◌%◌, ◌≤◌, ◌<◌, ◌≡◌, refl, get_or, length}
 use Rattle.std.proofs.Math.Nat.{mul-add-div_right, mul-add-mod_self_right, div-eq_of_lt}
 use Rattle.std.proofs.Common.{mod-eq_of_lt, div-add-mod', mod-lt, div-lt_iff_lt-mul, add-zero, mul-le-mul_right, suc-mul, arith, sym, ap, ◌∙◌}
 use Rattle.rows.specs.Grid.{table}

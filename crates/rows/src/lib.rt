@@ -1,1 +1,3 @@
+#![tactic(auto)]
+
 // Rows of cells: definitions and laws only.
