@@ -1,6 +1,6 @@
 -- The test `admits` is true exactly when some trace agrees with the knowledge and with what the message fixes: a trace of the stored
 -- knowledge is one of both, and a trace of both overwrites nothing and keeps the stored knowledge sound.
-use Rattle.std.specs.Prelude.{ℕ, ◌-◌, ◌≤◌, ◌<◌, ◌≡◌, refl, Bool, ◌⊎◌, ◌↔◌}
+use Rattle.std.specs.Prelude.{ℕ, ◌≤◌, ◌<◌, ◌≡◌, refl, Bool, ◌⊎◌, ◌↔◌}
 use Rattle.std.proofs.Common.{arith, sym, ap, ◌∙◌, inl, inr}
 use Rattle.std.proofs.Math.Bool.{true}
 use Rattle.knowledge.specs.Knowledge.{none, Knowledge, Sized, noted, valued, number, Sound, Agrees, sound, stored, free, admits}

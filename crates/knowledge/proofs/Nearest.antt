@@ -12,7 +12,7 @@ use Rattle.knowledge.specs.declared.Search.{Search}
 use Rattle.knowledge.specs.Trace.{tally}
 use Rattle.knowledge.specs.Knowledge.{none, Steady, Across, Equal, Apart}
 use Rattle.knowledge.proofs.Runs.{follow_up}
-use Rattle.knowledge.specs.Outwards.{NearestBefore, NearestAfter, NoneBefore, NoneAfter, in_reach, places_read, Counted, NeverFalls, NeverJumps, Outwards}
+use Rattle.knowledge.specs.Outwards.{NearestBefore, NearestAfter, NoneBefore, NoneAfter, in_reach, places_read, NeverFalls, NeverJumps, Outwards}
 use Rattle.knowledge.specs.Nearest.{Narrows, InReach}
 
 -- those of a steady run neither fall nor jump

@@ -1,5 +1,5 @@
 -- Laws of the definitions in specs/Pins. Assumes nothing.
-use Rattle.std.specs.Prelude.{refl, []}
+use Rattle.std.specs.Prelude.{refl}
 use Rattle.bits.specs.Bits.{bit}
 use Rattle.knowledge.specs.Knowledge.{follow, steady, level, full, word_sound, noted, valued, number, is_point, is_none, sound, fresh, stored}
 use Rattle.knowledge.specs.Outwards.{in_reach, places_read}

@@ -1,5 +1,5 @@
 -- The tests decide the statements: each is built of comparisons in the way in which its statement is built.
-use Rattle.std.specs.Prelude.{◌-◌, ◌≤◌}
+use Rattle.std.specs.Prelude.{◌≤◌}
 use Rattle.policy.specs.declared.Sizes.{Sizes}
 use Rattle.knowledge.specs.Knowledge.{most_minutes}
 

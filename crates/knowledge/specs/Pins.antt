@@ -2,11 +2,10 @@
 -- would let pass. Only the definitions are imported, so that a wrong one is refused here by itself.
 use Rattle.std.specs.Prelude.{ℕ, ◌≡◌, true, false, List, [], ◌∷◌, ◌++◌, get_or}
 use Rattle.kleene.specs.Truth.{Truth, unknown, true3, false3}
-use Rattle.bits.specs.Bits.{bit}
 use Rattle.policy.specs.declared.Sizes.{Sizes}
 use Rattle.message.specs.declared.Event.{Event}
 use Rattle.message.specs.declared.Event.TheVariants.{Observation, Alive}
-use Rattle.knowledge.specs.Knowledge.{Knowledge, none, full, fact, number, sound, point_known, fresh, stored}
+use Rattle.knowledge.specs.Knowledge.{Knowledge, none, fact, number, sound, point_known, fresh, stored}
 use Rattle.knowledge.specs.Outwards.{places_read}
 
 -- one proposition, n components, four minutes: a run has five places, the first of which stands for "before minute 0"

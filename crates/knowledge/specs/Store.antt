@@ -1,6 +1,6 @@
 -- What storing a message does to each sequence number and each fact.
-use Rattle.std.specs.Prelude.{ℕ, ◌-◌, ◌≡◌, Bool, true, ◌⊎◌}
-use Rattle.knowledge.specs.Knowledge.{Knowledge, noted, valued, fact}
+use Rattle.std.specs.Prelude.{ℕ, ◌≡◌, Bool, true, ◌⊎◌}
+use Rattle.knowledge.specs.Knowledge.{Knowledge, noted, valued}
 use Rattle.message.specs.declared.Event.{Event}
 use Rattle.message.specs.Fixes.{FixesFact}
 

@@ -1,4 +1,5 @@
 // The knowledge (01: the record): known sequence numbers and facts. `counter_runs` and `knowledge_store` work on it.
+#![tactic(auto)]
 
 // A sequence number that is not known.
 pub const NONE: u16 = 65535;

@@ -1,6 +1,6 @@
 -- The automaton decides which beginnings go on, and which texts are of the grammar.
 use Rattle.std.specs.Prelude.{ℕ, ◌≡◌, true, List, [], ◌∷◌, ◌++◌, length}
-use Rattle.rule_grammar.specs.Numeral.{digits, digit, Calm, Digits}
+use Rattle.rule_grammar.specs.Numeral.{digits, Calm, Digits}
 use Rattle.rule_grammar.specs.Term.{Joint, Term, word, looks}
 use Rattle.rule_grammar.specs.Automaton.{Wanted, byte, term, number, more, joint, eats, left, may_end}
 

@@ -1,7 +1,7 @@
 -- Words and numbers in a text, and what they are to a reader.
-use Rattle.std.specs.Prelude.{ℕ, suc, ◌+◌, ◌-◌, ◌≤◌, ◌<◌, ◌≡◌, true, false, cond, List, [], ◌∷◌, ◌++◌, eqb, length, take, drop, get_or}
-use Rattle.rule_grammar.specs.Numeral.{digits, digit, Calm}
-use Rattle.rule_grammar.specs.Automaton.{Wanted, byte, number, bytes}
+use Rattle.std.specs.Prelude.{ℕ, suc, ◌+◌, ◌≤◌, ◌<◌, ◌≡◌, true, false, cond, List, [], ◌∷◌, ◌++◌, eqb, length, take, drop, get_or}
+use Rattle.rule_grammar.specs.Numeral.{digits, Calm}
+use Rattle.rule_grammar.specs.Automaton.{Wanted, number}
 use Rattle.rule_grammar.specs.Tests.{is_too_much, starts_below}
 use Rattle.rule_grammar.specs.Runs.{Reached}
 use Rattle.rule_grammar.specs.Progress.{begun, plain}

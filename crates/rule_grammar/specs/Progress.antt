@@ -1,7 +1,7 @@
 -- What a reader knows at a place: what is wanted there, that no place before it is one of 14, and how many terms have started. Each law is a way of
 -- going on, or an answer.
-use Rattle.std.specs.Prelude.{ℕ, ◌<◌, ◌≡◌, Bool, true, false, List, [], eqb, take}
-use Rattle.rule_grammar.specs.Automaton.{Wanted, on, eats}
+use Rattle.std.specs.Prelude.{ℕ, ◌<◌, ◌≡◌, Bool, true, false, List, eqb, take}
+use Rattle.rule_grammar.specs.Automaton.{Wanted, eats}
 use Rattle.rule_grammar.specs.Decided.{rule}
 use Rattle.rule_grammar.specs.Tests.{is_far, is_too_much, starts_below}
 use Rattle.rule_grammar.specs.Runs.{Reached}

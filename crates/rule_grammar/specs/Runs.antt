@@ -1,6 +1,6 @@
 -- Where the automaton stands after the first bytes of a text.
 use Rattle.std.specs.Prelude.{ℕ, ◌≤◌, ◌≡◌, List, [], ◌∷◌, length, take, drop}
-use Rattle.rule_grammar.specs.Numeral.{digit, Calm}
+use Rattle.rule_grammar.specs.Numeral.{Calm}
 use Rattle.rule_grammar.specs.Automaton.{Wanted, more, Next, stuck, on, step}
 use Rattle.rule_grammar.specs.Decided.{rule}
 

@@ -1,6 +1,5 @@
 -- Which bytes are a numeral: "0", or a digit that isn't "0" and then any digits.
-use Rattle.std.specs.Prelude.{ℕ, ◌-◌, ◌≡◌, List, [], ◌∷◌}
-use Rattle.rule_grammar.specs.Numeral.{digit}
+use Rattle.std.specs.Prelude.{ℕ, ◌≡◌, List, ◌∷◌}
 
 -- the first digit is "0" only in "0"
 pub record Led (n : ℕ) (u : List ℕ) : Type 0 where

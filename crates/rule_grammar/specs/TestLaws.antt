@@ -1,7 +1,7 @@
 -- Each test decides its place.
-use Prim.Native.Nat.{ℕ, ◌+◌, ◌<◌}
+use Prim.Native.Nat.{ℕ, ◌<◌}
 use Rattle.std.specs.Prelude.{◌≡◌}
-use mathlib.Core.List.{List, [], ◌∷◌, ◌++◌}
+use mathlib.Core.List.{List, ◌∷◌, ◌++◌}
 use Rattle.rule_grammar.specs.Numeral.{digits}
 
 abbrev pub Crossed : List ℕ → Type 0

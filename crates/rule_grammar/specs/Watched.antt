@@ -1,5 +1,5 @@
 -- What was typed is what is watched: the textbook reading of a term's last line is the term's meaning. And its lines are a policy's.
-use Rattle.std.specs.Prelude.{ℕ, ◌≤◌, ◌<◌, ◌≡◌, [], length, get_or}
+use Rattle.std.specs.Prelude.{ℕ, ◌≤◌, ◌<◌, ◌≡◌, length, get_or}
 use Rattle.mtl.specs.declared.Formula.{Formula}
 use Rattle.mtl.specs.declared.Formula.TheVariants.{True as Always}
 use Rattle.mtl.specs.Syntax.{Earlier, Proposes, Bounded}

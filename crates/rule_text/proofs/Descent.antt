@@ -25,7 +25,7 @@ use Rattle.rule_grammar.specs.Term as T
 use Rattle.rule_grammar.specs.Lines.{inner, terms, joined, lines}
 use Rattle.rule_grammar.proofs.Watched.{line_count}
 use Rattle.rule_grammar.proofs.Reading.{three}
-use Rattle.rule_grammar.specs.Automaton.{Wanted, byte, term, joint, bytes, right}
+use Rattle.rule_grammar.specs.Automaton.{Wanted, byte, term, joint, bytes}
 use Rattle.rule_grammar.specs.Brackets.{closers}
 use Rattle.rule_grammar.specs.Progress.{State}
 use Rattle.rule_grammar.proofs.Progress.{start, advance, refuse_syntax, refuse_many, refuse_nested, accepts}

@@ -21,7 +21,6 @@ use Rattle.refusal.specs.Writes.{Output, reply}
 use Rattle.mtl.specs.declared.Formula.{Formula}
 use Rattle.mtl.specs.declared.Formula.TheVariants as F
 use Rattle.mtl.specs.Syntax.{Operands, Proposes, Bounded}
-use Rattle.mtl.specs.Algebra.{two}
 use Rattle.mtl.proofs.Textbook.{textbook}
 use Rattle.policy.specs.declared.Sizes.{Sizes}
 use Rattle.policy.specs.declared.LineNumbers.{LineNumbers}

@@ -15,11 +15,11 @@ use Rattle.rule_grammar.specs.Numeral.{digits, digit}
 use Rattle.rule_grammar.specs.Term as T
 use Rattle.rule_grammar.specs.Lines.{joined}
 use Rattle.rule_grammar.specs.Places as P
-use Rattle.rule_grammar.specs.Automaton.{Wanted, byte, term, joint, number, Next, on, stuck, bytes, right, bounds, step}
+use Rattle.rule_grammar.specs.Automaton.{Wanted, byte, term, joint, Next, on, stuck, bytes, right, bounds, step}
 use Rattle.rule_grammar.specs.Progress.{State, plain}
 use Rattle.rule_grammar.proofs.Progress.{plain_not, advance, refuse_syntax}
 use Rattle.rule_grammar.specs.Numbers.{Matching, PlainWord, Spelled}
-use Rattle.rule_grammar.proofs.Numbers.{plain_byte, no_plain_byte, word_read, word_broken, opens}
+use Rattle.rule_grammar.proofs.Numbers.{plain_byte, no_plain_byte, word_read, word_broken}
 use Rattle.rule_grammar.proofs.Intervals.{no_lower, no_comma, no_comma_far, no_upper, no_upper_far, open_far_lower, open_far_upper, open_end, far_lower_closed, far_upper_closed, closed, above_closed}
 use Rattle.rule_text.specs.declared.Interval.{Interval}
 use Rattle.rule_text.specs.declared.Interval.TheVariants as I

@@ -1,7 +1,7 @@
 -- Laws of the reader's functions: runs of "not", leaves, groups and terms.
 use Prim.Native.Nat.{ℕ, ◌+◌, ◌-◌, ◌≤◌}
 use Rattle.std.specs.Prelude.{◌≡◌}
-use mathlib.Core.List.{List, [], ◌∷◌, ◌++◌}
+use mathlib.Core.List.{List, ◌∷◌, ◌++◌}
 use Rattle.std.proofs.Math.ListN.{length, drop}
 use Rattle.rule_grammar.specs.Automaton.{Wanted, term}
 use Rattle.rule_grammar.specs.Progress.{State}

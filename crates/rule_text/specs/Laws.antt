@@ -1,5 +1,5 @@
 -- Laws of the reader's leaves: a word beside a text, a number, and which of two numbers is larger.
-use Rattle.std.specs.Prelude.{ℕ, ◌+◌, ◌-◌, ◌≤◌, ◌≡◌, List, [], ◌++◌, length, take, drop}
+use Rattle.std.specs.Prelude.{ℕ, ◌+◌, ◌≤◌, ◌≡◌, List, ◌++◌, length, take, drop}
 use Rattle.rule_grammar.specs.Numeral.{Digits, value}
 use Rattle.rule_text.specs.Steps.{Near}
 

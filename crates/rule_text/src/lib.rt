@@ -1,4 +1,6 @@
 // A rule typed as text (02, request 7): what its reader finds at a place. `rule_lexer` and `rule_parser` read it.
+#![tactic(auto)]
+
 use refusal::Refusal;
 
 // The two ends of an interval, and the place behind its "]".
