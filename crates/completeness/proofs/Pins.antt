@@ -1,5 +1,5 @@
 -- Laws of the definitions in specs/Pins. Assumes nothing.
-use Rattle.std.specs.Prelude.{ℕ, zero, suc, ◌<◌, ◌≡◌, refl, true, false, ◌⊎◌, []}
+use Rattle.std.specs.Prelude.{ℕ, zero, suc, ◌<◌, ◌≡◌, refl, true, false, ◌⊎◌}
 use Rattle.std.proofs.Common.{arith, sym, ◌∙◌, inl, inr}
 use Rattle.std.proofs.lemmas.Bool.{false≢true}
 use Rattle.bits.specs.Bits.{bit}
@@ -10,7 +10,7 @@ use Rattle.policy.specs.Proper.{formula_at}
 use Rattle.knowledge.specs.Knowledge.{Knowledge, level, full, noted, valued, number, KnownPoint, KnownNone, is_point, is_none}
 use Rattle.knowledge.proofs.Laws.{point_law, none_law}
 use Rattle.reach.specs.Reach.{reach_deep, reach}
-use Rattle.completeness.specs.Pins.{Pins, at_2, at_3, line, policy, sizes, u}
+use Rattle.completeness.specs.Pins.{Pins, at_2, at_3, policy, sizes}
 
 -- each of the four minutes
 four : (P : ℕ → Type 0) → P 0 → P 1 → P 2 → P 3 → (t : ℕ) → t < 4 → P t

@@ -1,6 +1,6 @@
 -- When all components have reported, the knowledge is complete. Each number that is known is the trace's count, and there is one at every observation's two
 -- places, before minute 0 and at M: so a minute without an observation lies between two known counts that are equal.
-use Rattle.std.specs.Prelude.{ℕ, ◌-◌, ◌<◌, ◌≡◌, Bool, true}
+use Rattle.std.specs.Prelude.{ℕ, ◌<◌, ◌≡◌, Bool, true}
 use Rattle.policy.specs.declared.Sizes.{Sizes}
 use Rattle.message.specs.Fixes.{Message, FixesNumber, FixesFact}
 use Rattle.knowledge.specs.Knowledge.{Knowledge, none, noted, number}

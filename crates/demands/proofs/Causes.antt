@@ -21,7 +21,7 @@ use Rattle.knowledge.specs.Knowledge.{Sound, sound, admits}
 use Rattle.knowledge.specs.Laws.{Limits}
 use Rattle.knowledge.proofs.Laws.{sound_law}
 use Rattle.knowledge.proofs.Conflict.{admits_law}
-use Rattle.monitor.specs.declared.Answer.TheVariants.{Done, Refused}
+use Rattle.monitor.specs.declared.Answer.TheVariants.{Done}
 use Rattle.origin.specs.Origin.{origin_of, opened_under}
 use Rattle.origin.proofs.Origin.{under_law}
 use Rattle.monitor.specs.State.{State, Outcome, unless, Sized, sized, opened, settled, slip_checks, origin_checks, record_checks, opening_checks, take_checks, open_state, receive, Taken}

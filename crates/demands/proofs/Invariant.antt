@@ -1,5 +1,5 @@
 -- What holds after any takes: the knowledge is what the opening and the accepted messages fix, and the sheets are the reading over it.
-use Rattle.std.specs.Prelude.{ℕ, ◌+◌, ◌-◌, ◌*◌, ◌≤◌, ◌<◌, ◌≡◌, refl, Bool, true, false, cond, ◌⊎◌, List, get_or, length, set, eqb}
+use Rattle.std.specs.Prelude.{ℕ, ◌+◌, ◌*◌, ◌≤◌, ◌<◌, ◌≡◌, refl, Bool, true, false, cond, ◌⊎◌, List, get_or, length, set, eqb}
 use Rattle.std.proofs.Common.{arith, sym, ap, ◌∙◌, true≢false, inl, inr, get_or-set_same, get_or-set_other}
 use Rattle.std.proofs.Math.Decide.{dec_lt, ℕ_discrete}
 use Rattle.std.proofs.Math.ListN.{length-replicate}

@@ -15,7 +15,7 @@ use Rattle.policy.proofs.Laws.{short}
 use Rattle.message.specs.Format.{message_checks, answer_of as message_answer}
 use Rattle.message.specs.Fixes.{Message, Fits, WellFormed, meaning_of}
 use Rattle.knowledge.specs.Trace.{Trace, Admits, AdmitsAll}
-use Rattle.knowledge.specs.Knowledge.{Sound, sound, admits}
+use Rattle.knowledge.specs.Knowledge.{Sound, admits}
 use Rattle.knowledge.specs.Laws.{Limits}
 use Rattle.knowledge.proofs.Conflict.{admits_law}
 use Rattle.monitor.specs.declared.Answer.{Answer}

@@ -1,6 +1,6 @@
 -- What an opening that answers done leaves.
 use Rattle.refusal.specs.declared.Answer.TheVariants as C
-use Rattle.std.specs.Prelude.{ℕ, ◌≡◌, List, []}
+use Rattle.std.specs.Prelude.{ℕ, ◌≡◌, List}
 use Rattle.policy.specs.Format.{answer_of as policy_answer, policy_of}
 use Rattle.origin.specs.Origin.{origin_of}
 use Rattle.monitor.specs.State.{Outcome, opened}

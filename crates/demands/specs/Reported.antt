@@ -4,7 +4,6 @@
 use Rattle.std.specs.Prelude.{ℕ, suc, ◌≡◌, true, false, eqb}
 use Rattle.std.proofs.Common.{arith, ne_eqb}
 use mathlib.Core.List.{List, [], ◌∷◌, Memᴰ}
-use Rattle.bits.specs.Digits.{below}
 use Rattle.bits.specs.Bits.{bit}
 use Rattle.policy.specs.Format.{policy_of}
 use Rattle.message.specs.declared.Event.TheVariants.{Observation, Alive}

@@ -1,15 +1,14 @@
 -- 01, "A small shift to check by": the starred cases, jointly, from the bytes of 01 to the verdict sheet and the refusals. They hold whatever the
 -- buffers held before the opening.
-use Rattle.std.specs.Prelude.{ℕ, ◌≡◌, List, [], ◌∷◌, ◌++◌, map, length, replicate, set}
+use Rattle.std.specs.Prelude.{ℕ, ◌≡◌, List, [], ◌∷◌, ◌++◌, map, replicate, set}
 use Rattle.refusal.specs.declared.Refusal.TheVariants.{BufferSize, CorruptKnowledge, TruncatedMessage, BadMessage, Conflict, OtherPolicy}
-use Rattle.knowledge.specs.Knowledge.{full, number, sound, stored}
 use Rattle.monitor.specs.declared.Answer.{Answer}
 use Rattle.monitor.specs.declared.Answer.TheVariants.{Done, Received, Refused}
 use Rattle.monitor.specs.declared.PacketAnswer.{PacketAnswer}
 use Rattle.monitor.specs.declared.Stop.{Stop}
 use Rattle.monitor.specs.declared.Stop.TheVariants as P
 use Rattle.origin.specs.Origin.{Origin, stamped, origin_of}
-use Rattle.monitor.specs.State.{State, lent, opened, open_state, receive, PacketOutcome, receive_packet, Receive, after}
+use Rattle.monitor.specs.State.{State, open_state, receive, PacketOutcome, receive_packet, Receive, after}
 
 -- "mark 0 at some time in the last 2 minutes"
 abbrev pub K : List ℕ

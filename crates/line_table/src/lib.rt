@@ -1,5 +1,7 @@
 // A policy's lines as one array of numbers, six a line: kind, first, second, lower, upper, and any but 0 for a rule. C lends them so, and a rule
 // typed as text is gathered so.
+#![tactic(auto)]
+
 ghost use Rattle.std.specs.Prelude.{◌≡◌, ◌<◌, length};
 ghost use Rattle.line_table.specs.Table.{line_at, lines_from, set_line};
 

@@ -1,5 +1,7 @@
 // What the calls over a lent state answer: open, receive and receive_packet, which stand in `monitor_calls`, and lookup, in `monitor_lookup`. What is
 // demanded of them stands in specs/Demands.antt.
+#![tactic(auto)]
+
 use refusal::Refusal;
 
 // What a call answers: an opening is done; a message is received, and so many verdicts stand; or the call is refused.

@@ -1,6 +1,5 @@
 -- 02, request 5, "One record, one card": which card a record was opened under.
-use Rattle.std.specs.Prelude.{ℕ, ◌+◌, ◌-◌, ◌≤◌, ◌<◌, ◌≡◌, Bool, true, false, ◌&&◌, List, [], ◌∷◌, ◌++◌, eqb, get_or, length, replicate}
-use Rattle.rows.proofs.Laws.{zeros}
+use Rattle.std.specs.Prelude.{ℕ, ◌-◌, ◌≤◌, ◌<◌, ◌≡◌, Bool, true, false, ◌&&◌, List, [], ◌∷◌, ◌++◌, eqb, get_or, length, replicate}
 
 -- "The record gains a lent buffer of 517 bytes holding the card's bytes, then zeros, and one number with the card's length."
 pub record Origin : Type 0 where

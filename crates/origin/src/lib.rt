@@ -1,4 +1,6 @@
 // Which policy a state was opened under (02, request 5): the origin, 517 bytes with the policy's and then zeros, and the extent, the policy's length.
+#![tactic(auto)]
+
 ghost use Rattle.std.specs.Prelude.{◌≡◌, ◌≤◌, length, get_or};
 ghost use Rattle.rows.specs.Grid.{table};
 ghost use Rattle.decide.specs.Decide.{Decides};
