@@ -1,5 +1,5 @@
 -- Laws of the definitions in specs/Begun. Assumes nothing.
-use Rattle.std.specs.Prelude.{ℕ, ◌+◌, ◌-◌, ◌<◌, ◌≡◌, refl, List, length, take, get_or}
+use Rattle.std.specs.Prelude.{ℕ, ◌+◌, ◌<◌, ◌≡◌, refl, List, length, take, get_or}
 use Rattle.std.proofs.Common.{sym, ap, ◌∙◌}
 use Rattle.compile_rule.specs.declared.beginning.Expected.{Expected}
 use Rattle.compile_rule.specs.declared.beginning.Expected.TheVariants.{Term}

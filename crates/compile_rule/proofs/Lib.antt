@@ -1,6 +1,6 @@
-pub mod Arguments
 pub mod Begun
 pub mod Choices
 pub mod Examples
 pub mod Line
+pub mod Numbered
 pub mod Words

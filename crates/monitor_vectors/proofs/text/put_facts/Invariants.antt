@@ -1,0 +1,11 @@
+-- `text::put_facts` is safe and ends: each fact leaves the place within the text. The measure is the facts that are left. Assumes nothing.
+use Prim.Native.Nat.{◌-◌, ◌≤◌}
+use mathlib.Core.Path.{◌≡◌}
+use lib.ListN.{length}
+use Rattle.monitor_vectors.proofs.text.put_facts.Given as goal
+
+abbrev pub invariant-loop-i : goal.invariant-loop-i
+invariant-loop-i l = (l.i ≤ length l.facts) × (l.end ≤ length l.text) × (length l.text ≡ length l.initial.text)
+
+abbrev pub decreases-loop-i : goal.decreases-loop-i
+decreases-loop-i l = length l.facts - l.i
