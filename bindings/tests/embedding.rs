@@ -18,9 +18,9 @@ fn blocks(document: &str) -> Vec<Block> {
         .collect()
 }
 
-/// The prover and these tests are run by the gate itself.
+/// The prover, the build and these tests are run by the gate itself.
 fn is_of_the_gate(commands: &str) -> bool {
-    commands.starts_with("rt ") || commands.starts_with("cargo test ")
+    ["rt ", "tools/build ", "cargo test "].iter().any(|command| commands.starts_with(command))
 }
 
 /// What commands print, in the repository's root; they must succeed.

@@ -30,7 +30,7 @@ pub fn compile_rule() -> PathBuf {
 fn built(name: &str, variable: &str) -> PathBuf {
     let beside = || root().join("target/bin").join(name);
     let program = env::var(variable).map_or_else(|_| beside(), PathBuf::from);
-    assert!(program.exists(), "no {}: run `rt check {name}` first", program.display());
+    assert!(program.exists(), "no {}: run `tools/build {name}` first", program.display());
     program
 }
 
