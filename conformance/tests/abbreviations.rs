@@ -230,7 +230,7 @@ fn the_small_shift_with_the_other_four() {
 }
 
 /// Each newer kind a rule of one card, of marks 0 and 1 or of mark 0 from 0 to 1 minutes away: mark 0 alone at minute 0,
-/// mark 1 alone at minute 2, minute 1 quiet and minute 3 open. The same case is proved in `crates/demands/specs/Small.antt`.
+/// mark 1 alone at minute 2, minute 1 quiet and minute 3 open. The same case is proved in `crates/demands/proofs/Small.antt`.
 #[test]
 fn six_rules_of_one_card() {
     let card: [&[u8]; 9] = [
