@@ -23,7 +23,7 @@ STRING = re.compile(r'b?"(?:[^"\\]|\\.)*"')
 LABEL = re.compile(r"^([^\s:]+) : tie\.", re.M)
 PROOF = re.compile(r"^pub ([^\s:]+-spec) :", re.M)
 # Types spelled as functions were, and lemmas whose name in snake case the kit's function has.
-TYPES = {"is-sound": "IsSound", "is-corrupt": "IsCorrupt", "bit-and": "bit-bit_and", "bit-or": "bit-bit_or", "bit-xor": "bit-bit_xor"}
+TYPES = {"Goes_on": "GoesOn", "is-sound": "IsSound", "is-corrupt": "IsCorrupt", "bit-and": "bit-bit_and", "bit-or": "bit-bit_or", "bit-xor": "bit-bit_xor"}
 
 
 def files(root, endings):
@@ -61,7 +61,7 @@ def own_names(root):
             own.update(LET.findall(line))
             if line.lstrip().startswith(("use ", "pub use ")):
                 own.update(ALIAS.findall(line))
-    return {n for n in own if "-" in n.strip("-") and not n.startswith(("+", "#")) and "◌" not in n and n not in TYPES.values()}
+    return {n for n in own if n in TYPES or "-" in n.strip("-") and not n.startswith(("+", "#")) and "◌" not in n and n not in TYPES.values()}
 
 
 def from_kit(text, crates):

@@ -13,7 +13,7 @@ use Rattle.rule_grammar.specs.Term.{Joint, Or, And, Since, Until, Term, True, Ma
 use Rattle.rule_grammar.specs.Lines.{terms}
 use Rattle.rule_grammar.specs.Tests.{starts, starts_below}
 use Rattle.rule_grammar.proofs.TestLaws.{goes_is, counted, more_below, last, many_sound, and_both}
-use Rattle.rule_grammar.specs.Places.{Readable, Goes_on, TooMuch, mark, bound, above, too_much, Taken, Answered}
+use Rattle.rule_grammar.specs.Places.{Readable, GoesOn, TooMuch, mark, bound, above, too_much, Taken, Answered}
 use Rattle.rule_grammar.proofs.PlaceLaws.{readable_longest}
 use Rattle.rule_grammar.specs.Watched.{Fair, Within, PolicyLines}
 use Rattle.rule_grammar.proofs.Watched.{policy_lines}
@@ -92,7 +92,7 @@ module _ (b : List ℕ) where
       let r = d.1 (Mark 0) in
       let t : take (length p) b ≡ p = ap (take (length p)) e ∙ take_at p q (length p) refl in
       (goes_is (take (length p) b ++ 109 ∷ [])).whole
-      (subst (λ (z : List ℕ). Goes_on (z ++ 109 ∷ [])) (sym t)
+      (subst (λ (z : List ℕ). GoesOn (z ++ 109 ∷ [])) (sym t)
       (r.0, digits 0 ++ d.0, r.1 ∙ ap (λ (z : List ℕ). z ++ d.0) (sym (append_assoc p (109 ∷ []) (digits 0))) ∙ append_assoc (p ++ 109 ∷ []) (digits 0) d.0))
 
   count_terms : (x : Term) (p q : List ℕ) → b ≡ p ++ looks x ++ q → Due p → starts_below b (length p) + terms x ≤ starts_below b (length p + length (looks x))

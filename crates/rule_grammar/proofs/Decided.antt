@@ -7,7 +7,7 @@ use Rattle.rule_grammar.proofs.Numeral.{digits_digits, head, tail, put}
 use Rattle.rule_grammar.proofs.Spelling.{spelt, led, zero_is}
 use Rattle.rule_grammar.specs.Term.{Joint, Or, And, Since, Until, Term, True, Mark, Not, Group, interval, word, looks}
 use Rattle.rule_grammar.proofs.Reading.{two, three}
-use Rattle.rule_grammar.specs.Places.{Readable, Goes_on, Longest}
+use Rattle.rule_grammar.specs.Places.{Readable, GoesOn, Longest}
 use Rattle.rule_grammar.specs.Automaton.{Wanted, byte, term, number, more, joint, Next, stuck, on, bytes, pick, right, bounds, step, eats, left, may_end}
 use Rattle.rule_grammar.specs.Decided.{Begins, Fine, Quiet, Wants, Whole, rule}
 
@@ -324,10 +324,10 @@ nil : (u : List ℕ) → u ++ [] ≡ u
 nil [] = refl
 nil (x ∷ u) = put x (nil u)
 
-begins_goes_on : (p : List ℕ) → Begins rule p → Goes_on p
+begins_goes_on : (p : List ℕ) → Begins rule p → GoesOn p
 begins_goes_on p h = (h.1.0, h.0, sym (h.1.2 ∙ ap (λ (v : List ℕ). looks h.1.0 ++ v) h.1.3 ∙ nil (looks h.1.0)))
 
-goes_on_begins : (p : List ℕ) → Goes_on p → Begins rule p
+goes_on_begins : (p : List ℕ) → GoesOn p → Begins rule p
 goes_on_begins p h = (h.1, (h.0, [], sym h.2 ∙ sym (nil (looks h.0)), refl))
 
 -- the automaton takes exactly the longest beginning that goes on

@@ -4,7 +4,7 @@ use Rattle.std.proofs.Common.{arith, eq-or-lt_of_le, sym, ap, subst, ◌∙◌, 
 use Rattle.std.proofs.Math.Decide.{dec_lt}
 use Rattle.rule_grammar.specs.Term.{Term, looks}
 use Rattle.rule_grammar.proofs.Reading.{one_reading}
-use Rattle.rule_grammar.specs.Places.{Readable, Goes_on, Longest, TooMuch, nested, mark, bound, many, above, Cause, unreadable, too_much, Answer, Taken, Refused, Answered}
+use Rattle.rule_grammar.specs.Places.{Readable, GoesOn, Longest, TooMuch, nested, mark, bound, many, above, Cause, unreadable, too_much, Answer, Taken, Refused, Answered}
 
 pub one_answer : (propositions : ℕ) (text : List ℕ) (a b : Answer) → Answered propositions text a → Answered propositions text b → a ≡ b
 one_answer m s (Taken x) (Taken y) p q = ap Taken (one_reading x y (p.0 ∙ sym q.0))
@@ -19,17 +19,17 @@ one_answer m s (Refused n i) (Refused k j) p q = go (p.1 k j q.0) (q.1 n i p.0)
     go (inr h) (inr g) = let e : n ≡ k = omega arith in let f : i ≡ j = omega arith in cc
 
 -- the beginning of one that goes on goes on
-pub cut : (p q : List ℕ) → Goes_on (p ++ q) → Goes_on p
+pub cut : (p q : List ℕ) → GoesOn (p ++ q) → GoesOn p
 cut p q h = (h.0, q ++ h.1, h.2 ∙ append_assoc p q h.1)
 
-pub cut_take : (i j : ℕ) (text : List ℕ) → i ≤ j → Goes_on (take j text) → Goes_on (take i text)
+pub cut_take : (i j : ℕ) (text : List ℕ) → i ≤ j → GoesOn (take j text) → GoesOn (take i text)
 cut_take i j text l h = cut (take i text) (drop i (take j text)) (rw (← (take-take i j text l), take-append-drop) h)
 
 -- it is enough to look at the next byte
-pub longest : (text : List ℕ) (v : ℕ) → v ≤ length text → Goes_on (take v text) → (v < length text → Goes_on (take (suc v) text) → ⊥) → Longest text v
+pub longest : (text : List ℕ) (v : ℕ) → v ≤ length text → GoesOn (take v text) → (v < length text → GoesOn (take (suc v) text) → ⊥) → Longest text v
 longest text v l h stop = record { inside = l; goes_on = h; no_longer = λ i m g. go i m g (dec_lt v i) }
   where
-    go : (i : ℕ) → i ≤ length text → Goes_on (take i text) → Dec (v < i) → i ≤ v
+    go : (i : ℕ) → i ≤ length text → GoesOn (take i text) → Dec (v < i) → i ≤ v
     go i m g (yes a) = absurd (stop (omega arith) (cut_take (suc v) i text a g))
     go i m g (no a) = omega arith
 

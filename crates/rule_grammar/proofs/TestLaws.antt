@@ -16,7 +16,7 @@ use Rattle.decide.specs.Decide.{Decides}
 use Rattle.rule_grammar.specs.Numeral.{digits, digit, Calm, Digits, value}
 use Rattle.rule_grammar.proofs.Numeral.{digits_digits, digits_value, head, tail, put, one_numeral}
 use Rattle.rule_grammar.proofs.Spelling.{spelt, led, zero_is}
-use Rattle.rule_grammar.specs.Places.{Goes_on, Longest, count, TooMuch, nested, mark, bound, many, above}
+use Rattle.rule_grammar.specs.Places.{GoesOn, Longest, count, TooMuch, nested, mark, bound, many, above}
 use Rattle.rule_grammar.specs.Automaton.{term, eats}
 use Rattle.rule_grammar.proofs.Decided.{longest_is}
 use Rattle.rule_grammar.specs.Tests.{read, rest, starts_calm, numeral, past, goes, is_nested, is_past, starts, one_if, starts_below, is_many, crossed, is_above, is_far, is_too_much}
@@ -259,7 +259,7 @@ crossed_is u = record { sound = there; whole = λ h. back h.0 h.1 h.2 h.3 h.4 }
 
 -- ---- terms
 
-pub goes_is : (w : List ℕ) → Decides (goes w) (Goes_on w)
+pub goes_is : (w : List ℕ) → Decides (goes w) (GoesOn w)
 goes_is w = record { sound = there; whole = λ g. eq-eqb (eats (term ∷ []) w) (length w) (back g) }
   where
     l : Longest w (eats (term ∷ []) w)
@@ -268,11 +268,11 @@ goes_is w = record { sound = there; whole = λ g. eq-eqb (eats (term ∷ []) w) 
     all : take (length w) w ≡ w
     all = take_all (length w) w (omega arith)
 
-    there : goes w ≡ true → Goes_on w
-    there e = subst Goes_on (ap (λ (n : ℕ). take n w) (eqb-true (eats (term ∷ []) w) (length w) e) ∙ all) l.goes_on
+    there : goes w ≡ true → GoesOn w
+    there e = subst GoesOn (ap (λ (n : ℕ). take n w) (eqb-true (eats (term ∷ []) w) (length w) e) ∙ all) l.goes_on
 
-    back : Goes_on w → eats (term ∷ []) w ≡ length w
-    back g = let m = l.no_longer (length w) (omega arith) (subst Goes_on (sym all) g) in omega (arith, l.inside)
+    back : GoesOn w → eats (term ∷ []) w ≡ length w
+    back g = let m = l.no_longer (length w) (omega arith) (subst GoesOn (sym all) g) in omega (arith, l.inside)
 
 module _ (b : List ℕ) where
   -- n starts before the one at i

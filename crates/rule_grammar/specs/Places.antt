@@ -10,14 +10,14 @@ abbrev pub Readable : List ℕ → Type 0
 Readable text = (x : Term) × (looks x ≡ text)
 
 -- some text of the grammar begins so
-abbrev pub Goes_on : List ℕ → Type 0
-Goes_on begun = (x : Term) × (rest : List ℕ) × (looks x ≡ begun ++ rest)
+abbrev pub GoesOn : List ℕ → Type 0
+GoesOn begun = (x : Term) × (rest : List ℕ) × (looks x ≡ begun ++ rest)
 
 -- the longest beginning of the text that goes on has v bytes
 pub record Longest (text : List ℕ) (v : ℕ) : Type 0 where
   pub inside : v ≤ length text
-  pub goes_on : Goes_on (take v text)
-  pub no_longer : (i : ℕ) → i ≤ length text → Goes_on (take i text) → i ≤ v
+  pub goes_on : GoesOn (take v text)
+  pub no_longer : (i : ℕ) → i ≤ length text → GoesOn (take i text) → i ≤ v
 
 -- how often a byte stands in a text
 abbrev pub count : ℕ → List ℕ → ℕ
@@ -33,7 +33,7 @@ pub data TooMuch (propositions : ℕ) (begun : List ℕ) : ℕ → Type 0 where
   bound : (p q : List ℕ) (c n : ℕ) → (c ≡ code "[") ⊎ (c ≡ code ",") → begun ≡ p ++ c ∷ [] ++ digits n ++ q → 1023 < n → TooMuch propositions begun (suc (length p))
   -- where a 65th term would start: the byte "m" could stand there and at 64 places before it, and "m" only ever begins a term
   many : (at : ℕ → ℕ) → ((k : ℕ) → k < 64 → at k < at (suc k)) → at 64 ≤ length begun
-      → ((k : ℕ) → k ≤ 64 → Goes_on (take (at k) begun ++ ascii "m")) → TooMuch propositions begun (at 64)
+      → ((k : ℕ) → k ≤ 64 → GoesOn (take (at k) begun ++ ascii "m")) → TooMuch propositions begun (at 64)
   -- the "[" of a closed interval with a above b
   above : (p q : List ℕ) (a b : ℕ) → begun ≡ p ++ interval a b ++ q → b < a → TooMuch propositions begun (length p)
 
