@@ -24,6 +24,7 @@ import os
 import re
 import subprocess
 import sys
+import tempfile
 
 TOP = os.path.dirname(os.path.dirname(os.path.abspath(__file__)))
 
@@ -507,7 +508,7 @@ def main():
     crate, only = given[0], given[1:]
     folder = os.path.join(TOP, "crates", crate)
     if names is None:
-        to = "/tmp/names_" + crate
+        to = os.path.join(tempfile.mkdtemp(), "names_" + crate)
         said = subprocess.run(["rt", "check", "--generated", to, "--old-names"], cwd=folder, capture_output=True, text=True)
         names = to + "/names.json"
         if not os.path.exists(names):
