@@ -175,12 +175,24 @@ def main(argv):
                     for (c, f, name), k in owner.items():
                         if (c, f) == aliases[t] and re.search(rf"\b{re.escape(t)}\.{re.escape(name)}(?![\w-])", b.text()):
                             edges[*key, n].add((c, f, k))
+
     def is_theorem(node):
         b = files[node[:2]][2][node[2]]
         return b.kind == "plain" or (b.kind == "module" and not b.inner_defs)
 
-    # what the code's contracts name, and all that this is made of within its crate
-    stay, why, todo = set(), {}, []
+    stay, why = set(), {}
+
+    def keep(todo):
+        """These stay, and all that they are made of within their crate."""
+        while todo:
+            node, reason = todo.pop()
+            if node not in stay:
+                stay.add(node)
+                why[node] = reason
+                todo += [(e, f"used by {node[1]}:{files[node[:2]][2][node[2]].names[:1]}") for e in edges[node] if e[0] == node[0]]
+
+    # what the code's contracts name
+    todo = []
     for c in sorted(os.listdir("crates")):
         for folder, dirs, names in os.walk(f"crates/{c}/src"):
             for f in names:
@@ -192,12 +204,7 @@ def main(argv):
                                 k = (m[3], m[4], item.strip().split(" as ")[0].strip())
                                 if k in owner:
                                     todo.append(((m[3], m[4], owner[k]), "src"))
-    while todo:
-        node, reason = todo.pop()
-        if node not in stay:
-            stay.add(node)
-            why[node] = reason
-            todo += [(e, f"used by {node[1]}:{files[node[:2]][2][node[2]].names[:1]}") for e in edges[node] if e[0] == node[0]]
+    keep(todo)
 
     # other definitions, but for those that are made of a theorem of their own crate
     def with_theorem(node, seen):
@@ -213,13 +220,7 @@ def main(argv):
                 if with_theorem((*key, n), frozenset()):
                     print("made of theorems, goes:", *key, b.kind, b.names[:3])
                     continue
-                todo = [((*key, n), "def")]
-                while todo:
-                    node, reason = todo.pop()
-                    if node not in stay:
-                        stay.add(node)
-                        why[node] = reason
-                        todo += [(e, f"used by {node[1]}:{files[node[:2]][2][node[2]].names[:1]}") for e in edges[node] if e[0] == node[0]]
+                keep([((*key, n), "def")])
     moved = {}
     for key, (head, uses, blocks) in files.items():
         for n, b in enumerate(blocks):
