@@ -27,7 +27,7 @@ function number_in(text) {
 # 0; `group` hands `term` what it was handed, to one term after the other. So there are at most 33 of `term`, the innermost of which calls no
 # `group`, and 32 of `group`; what the innermost calls besides comes on top.
 function most(of) {
-    return of == "rule_parser::term" ? 33 : of == "rule_parser::group" ? 32 : 1
+    return of == "rule_parser::Source::term" ? 33 : of == "rule_parser::Source::group" ? 32 : 1
 }
 
 function depth(of,    i, parts, count, below, deepest) {

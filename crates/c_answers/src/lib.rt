@@ -2,92 +2,45 @@
 #![tactic(auto)]
 
 ghost use Rattle.std.specs.Prelude.{◌≡◌};
-ghost use Rattle.monitor.specs.Lookup.{verdict_code};
-ghost use Rattle.c_answers.specs.Returned.{number_of, detail_of, stop_number, stop_place, look_number, look_detail, written_number, written_detail};
+ghost use Rattle.c_answers.specs.Returned.{number_of, detail_of, stop_number, stop_place};
 
-use monitor::{Answer, Look, Stop, Verdict};
-use refusal::Written;
+use monitor::Stopped;
+use refusal::Refusal;
 
-pub fn answer_number(answer: Answer) -> u8
+// The number of an answer, whatever it gives.
+pub fn number<T: Copy>(answer: Result<T, Refusal>) -> u8
     ensures { result ≡ number_of answer }
 {
     match answer {
-        Answer::Done => 0,
-        Answer::Received { standing: _ } => 0,
-        Answer::Refused(r) => refusal::number(r),
+        Ok(_) => 0,
+        Err(refusal) => refusal.number(),
     }
 }
 
-pub fn answer_detail(answer: Answer) -> usize
-    ensures { result ≡ detail_of answer }
+// Its detail: the number that it gives, or the refusal's place.
+pub fn detail(answer: Result<usize, Refusal>) -> usize
+    ensures { result ≡ detail_of (λ n. n) answer }
 {
     match answer {
-        Answer::Done => 0,
-        Answer::Received { standing } => standing,
-        Answer::Refused(r) => refusal::place(r),
+        Ok(given) => given,
+        Err(refusal) => refusal.place(),
     }
 }
 
-pub fn stop_number(stop: Stop) -> u8
+pub fn stop_number(stop: Option<Stopped>) -> u8
     ensures { result ≡ stop_number stop }
 {
     match stop {
-        Stop::AtEnd => 0,
-        Stop::Refused { refusal, place: _ } => refusal::number(refusal),
+        None => 0,
+        Some(stopped) => stopped.refusal.number(),
     }
 }
 
-pub fn stop_place(stop: Stop) -> usize
+pub fn stop_place(stop: Option<Stopped>) -> usize
     ensures { result ≡ stop_place stop }
 {
     match stop {
-        Stop::AtEnd => 0,
-        Stop::Refused { refusal: _, place } => place,
-    }
-}
-
-fn code_of(verdict: Verdict) -> usize
-    ensures { result ≡ verdict_code verdict }
-{
-    match verdict {
-        Verdict::Unknown => 0,
-        Verdict::Satisfied => 1,
-        Verdict::Violated => 2,
-    }
-}
-
-pub fn look_number(look: Look) -> u8
-    ensures { result ≡ look_number look }
-{
-    match look {
-        Look::Shows(_) => 0,
-        Look::Refused(r) => refusal::number(r),
-    }
-}
-
-pub fn look_detail(look: Look) -> usize
-    ensures { result ≡ look_detail look }
-{
-    match look {
-        Look::Shows(verdict) => code_of(verdict),
-        Look::Refused(r) => refusal::place(r),
-    }
-}
-
-pub fn written_number(written: Written) -> u8
-    ensures { result ≡ written_number written }
-{
-    match written {
-        Written::Length(_) => 0,
-        Written::Refused(r) => refusal::number(r),
-    }
-}
-
-pub fn written_detail(written: Written) -> usize
-    ensures { result ≡ written_detail written }
-{
-    match written {
-        Written::Length(n) => n,
-        Written::Refused(r) => refusal::place(r),
+        None => 0,
+        Some(stopped) => stopped.place,
     }
 }

@@ -1,4 +1,3 @@
-pub mod Begun
 pub mod Choices
 pub mod Examples
 pub mod Line

@@ -1,6 +1,5 @@
 -- A number that is typed in decimal, as an argument.
-use Rattle.std.specs.Prelude.{ℕ, ◌+◌, ◌*◌, ◌%◌, Bool, ◌&&◌, List, ltb, length}
-use Rattle.compile_rule.specs.declared.arguments.Typed.{Typed}
+use Rattle.std.specs.Prelude.{ℕ, ◌+◌, ◌*◌, ◌%◌, Bool, ◌&&◌, List, Option, None, Some, ltb, length}
 use Rattle.compile_rule.specs.Choices.{choose, digit, run}
 
 -- no size comes near a million: a larger number counts as that one
@@ -10,5 +9,6 @@ with_digit value c = choose (ltb (value * 10 + c % 16) 1000000) (value * 10 + c 
 abbrev pub all_digits : Bool → ℕ → Bool
 all_digits whole c = whole && digit c
 
-unfoldable pub number : List ℕ → Typed
-number digits = record { whole = run all_digits (ltb 0 (length digits)) digits; value = run with_digit 0 digits }
+-- none where there is no byte, or another than a digit
+unfoldable pub number : List ℕ → Option ℕ
+number digits = choose (run all_digits (ltb 0 (length digits)) digits) (Some (run with_digit 0 digits)) None

@@ -2,8 +2,6 @@
 ghost use Rattle.std.specs.Prelude.{◌≡◌, ◌≤◌, length, take};
 ghost use Rattle.compile_rule.specs.Begun as S;
 
-use crate::arguments::is_digit;
-
 // What comes next. Of a word it is the rest, of a number the first digit or a further one.
 #[derive(Clone, Copy)]
 pub enum Expected {
@@ -39,123 +37,139 @@ pub struct Beginning {
 // Far more levels than brackets may nest: what is above them is dropped, so that a further one fits.
 const LEVELS: u64 = 4611686018427387904;
 
-fn expecting(expected: Expected, left: u8, levels: u64) -> Beginning
-    ensures { result ≡ S.expecting expected left levels }
-{
-    Beginning {
-        expected: expected,
-        left: left,
-        levels: levels,
-    }
-}
+// Behind nothing.
+const START: Beginning = Beginning {
+    expected: Expected::Term,
+    left: 0,
+    levels: 1,
+};
 
-// Behind the first byte of a term.
-fn begin_term(byte: u8, levels: u64) -> Beginning
-    ensures { result ≡ S.begin_term byte levels }
-{
-    if byte == b't' {
-        return expecting(Expected::True, 3, levels);
+impl Beginning {
+    // With the same levels, so many bytes of what is expected to come.
+    fn expecting(self, expected: Expected, left: u8) -> Beginning
+        ensures { result ≡ S.expecting expected left self.levels }
+    {
+        Beginning {
+            expected,
+            left,
+            ..self
+        }
     }
-    if byte == b'n' {
-        return expecting(Expected::Not, 2, levels);
-    }
-    if byte == b'm' {
-        return expecting(Expected::Mark, 0, levels);
-    }
-    expecting(Expected::Term, 0, levels % LEVELS * 2)
-}
 
-// Behind the byte that follows a term.
-fn end_term(byte: u8, levels: u64) -> Beginning
-    ensures { result ≡ S.end_term byte levels }
-{
-    if byte == b')' {
-        return expecting(Expected::Ended, 0, levels / 2);
+    // Behind the first byte of a term.
+    #[tactic(auto, unfolding(crate::specs::Begun::begin_term, crate::specs::Choices::choose))]
+    fn begin_term(self, byte: u8) -> Beginning
+        ensures { result ≡ S.begin_term byte self.levels }
+    {
+        match byte {
+            b't' => self.expecting(Expected::True, 3),
+            b'n' => self.expecting(Expected::Not, 2),
+            b'm' => self.expecting(Expected::Mark, 0),
+            _ => Beginning {
+                expected: Expected::Term,
+                left: 0,
+                levels: self.levels % LEVELS * 2,
+            },
+        }
     }
-    expecting(Expected::Joint, 0, levels)
-}
 
-// Behind the first byte of a word between two terms.
-fn begin_joint(byte: u8, levels: u64) -> Beginning
-    ensures { result ≡ S.begin_joint byte levels }
-{
-    let second = levels / 2 * 2 + 1;
-    if byte == b'o' {
-        return expecting(Expected::Or, 1, second);
+    // Behind the byte that follows a term.
+    #[tactic(auto, unfolding(crate::specs::Begun::end_term, crate::specs::Choices::choose))]
+    fn end_term(self, byte: u8) -> Beginning
+        ensures { result ≡ S.end_term byte self.levels }
+    {
+        match byte {
+            b')' => Beginning {
+                expected: Expected::Ended,
+                left: 0,
+                levels: self.levels / 2,
+            },
+            _ => self.expecting(Expected::Joint, 0),
+        }
     }
-    if byte == b'a' {
-        return expecting(Expected::And, 2, second);
-    }
-    if byte == b's' {
-        return expecting(Expected::Since, 4, second);
-    }
-    expecting(Expected::Until, 4, second)
-}
 
-// Behind one byte more of a word, after which something else is expected.
-fn go_on(b: Beginning, next: Expected) -> Beginning
-    ensures { result ≡ S.go_on b next }
-{
-    let expected = b.expected;
-    if b.left > 1 {
-        return expecting(expected, b.left - 1, b.levels);
+    // Behind the first byte of a word between two terms.
+    #[tactic(auto, unfolding(crate::specs::Begun::begin_joint, crate::specs::Choices::choose))]
+    fn begin_joint(self, byte: u8) -> Beginning
+        ensures { result ≡ S.begin_joint byte self.levels }
+    {
+        let second = Beginning {
+            levels: self.levels / 2 * 2 + 1,
+            ..self
+        };
+        match byte {
+            b'o' => second.expecting(Expected::Or, 1),
+            b'a' => second.expecting(Expected::And, 2),
+            b's' => second.expecting(Expected::Since, 4),
+            _ => second.expecting(Expected::Until, 4),
+        }
     }
-    expecting(next, 0, b.levels)
-}
 
-// Behind a digit of a mark's number, or behind the byte that follows the mark.
-fn go_on_mark(b: Beginning, byte: u8) -> Beginning
-    ensures { result ≡ S.go_on_mark b byte }
-{
-    if is_digit(byte) {
-        return b;
+    // Behind one byte more of a word, after which something else is expected.
+    #[tactic(auto, unfolding(crate::specs::Begun::go_on, crate::specs::Choices::choose))]
+    fn go_on(self, next: Expected) -> Beginning
+        ensures { result ≡ S.go_on self next }
+    {
+        if self.left > 1 {
+            self.expecting(self.expected, self.left - 1)
+        } else {
+            self.expecting(next, 0)
+        }
     }
-    end_term(byte, b.levels)
-}
 
-// Behind a digit of a bound, or behind the byte that ends it.
-fn go_on_bound(b: Beginning, byte: u8, end: u8, next: Expected) -> Beginning
-    ensures { result ≡ S.go_on_bound b byte end next }
-{
-    if byte == end {
-        return expecting(next, 0, b.levels);
+    // Behind a digit of a mark's number, or behind the byte that follows the mark.
+    #[tactic(auto, unfolding(crate::specs::Begun::go_on_mark, crate::specs::Choices::choose, crate::specs::Choices::digit))]
+    fn go_on_mark(self, byte: u8) -> Beginning
+        ensures { result ≡ S.go_on_mark self byte }
+    {
+        if byte.is_ascii_digit() {
+            self
+        } else {
+            self.end_term(byte)
+        }
     }
-    b
-}
 
-// Behind one byte more of a text of the grammar.
-fn step(b: Beginning, byte: u8) -> Beginning
-    ensures { result ≡ S.step b byte }
-{
-    let expected = b.expected;
-    match expected {
-        Expected::Term => begin_term(byte, b.levels),
-        Expected::True => go_on(b, Expected::Ended),
-        Expected::Not => go_on(b, Expected::Space),
-        Expected::Space => expecting(Expected::Term, 0, b.levels),
-        Expected::Mark => go_on_mark(b, byte),
-        Expected::Ended => end_term(byte, b.levels),
-        Expected::Joint => begin_joint(byte, b.levels),
-        Expected::Or => go_on(b, Expected::Space),
-        Expected::And => go_on(b, Expected::Space),
-        Expected::Since => go_on(b, Expected::Bracket),
-        Expected::Until => go_on(b, Expected::Bracket),
-        Expected::Bracket => expecting(Expected::Lower, 0, b.levels),
-        Expected::Lower => go_on_bound(b, byte, b',', Expected::Upper),
-        Expected::Upper => go_on_bound(b, byte, b']', Expected::Space),
+    // Behind a digit of a bound, or behind the byte that ends it.
+    #[tactic(auto, unfolding(crate::specs::Begun::go_on_bound, crate::specs::Choices::choose))]
+    fn go_on_bound(self, byte: u8, end: u8, next: Expected) -> Beginning
+        ensures { result ≡ S.go_on_bound self byte end next }
+    {
+        if byte == end {
+            self.expecting(next, 0)
+        } else {
+            self
+        }
+    }
+
+    // Behind one byte more of a text of the grammar.
+    #[tactic(auto, unfolding(crate::specs::Begun::step))]
+    fn step(self, byte: u8) -> Beginning
+        ensures { result ≡ S.step self byte }
+    {
+        match self.expected {
+            Expected::Term => self.begin_term(byte),
+            Expected::True => self.go_on(Expected::Ended),
+            Expected::Not | Expected::Or | Expected::And => self.go_on(Expected::Space),
+            Expected::Since | Expected::Until => self.go_on(Expected::Bracket),
+            Expected::Space => self.expecting(Expected::Term, 0),
+            Expected::Mark => self.go_on_mark(byte),
+            Expected::Ended => self.end_term(byte),
+            Expected::Joint => self.begin_joint(byte),
+            Expected::Bracket => self.expecting(Expected::Lower, 0),
+            Expected::Lower => self.go_on_bound(byte, b',', Expected::Upper),
+            Expected::Upper => self.go_on_bound(byte, b']', Expected::Space),
+        }
     }
 }
 
 // How a text of the grammar has begun before a place.
+#[tactic(auto, using(crate::proofs::Choices::folded), unfolding(crate::specs::Begun::begun))]
 pub fn scan(text: &[u8], place: usize) -> Beginning
     requires { place ≤ length text.now }
     ensures { result ≡ S.begun (take place text.now) }
 {
-    let mut b = expecting(Expected::Term, 0, 1);
-    let mut i = 0;
-    while i < place {
-        b = step(b, text[i]);
-        i += 1;
-    }
-    b
+    text[..place]
+        .iter()
+        .copied()
+        .fold(START, |b, byte| b.step(byte))
 }

@@ -2,11 +2,12 @@
 ghost use Rattle.std.specs.Prelude.{◌≡◌, ◌≤◌, length};
 ghost use Rattle.compile_rule.specs.Words as S;
 
-use crate::arguments::is_digit;
 use crate::beginning;
 use crate::beginning::Expected;
-use crate::reason::byte_at;
-use crate::report::STDERR_FILENO;
+use crate::report::Visible;
+use rule_lexer::byte_at;
+use std::fmt;
+use std::fmt::{Display, Formatter};
 
 #[derive(Clone, Copy)]
 pub enum Excess {
@@ -21,103 +22,99 @@ pub enum Excess {
 const DEEPEST: u64 = 4294967296;
 
 // Where a term would start.
+#[tactic(auto, unfolding(crate::specs::Words::term_limit, crate::specs::Choices::choose))]
 fn of_term(text: &[u8], at: usize, levels: u64) -> Excess
     ensures { result ≡ S.term_limit text.now at levels }
 {
     if (byte_at(text, at) == b'(') & (DEEPEST <= levels) {
-        return Excess::Nesting;
+        Excess::Nesting
+    } else {
+        Excess::Terms
     }
-    Excess::Terms
 }
 
 // Which limit is passed at a place, before which the text is the beginning of one of the grammar. Only where a term, a number or a bracket
 // comes next can one be passed.
+#[tactic(auto, unfolding(crate::specs::Words::limit_at))]
 pub fn limit_at(text: &[u8], at: usize) -> Excess
     requires { at ≤ length text.now }
     ensures { result ≡ S.limit_at text.now at }
 {
     let b = beginning::scan(text, at);
-    let expected = b.expected;
-    match expected {
+    match b.expected {
         Expected::Term => of_term(text, at, b.levels),
-        Expected::True => Excess::Terms,
-        Expected::Not => Excess::Terms,
-        Expected::Space => Excess::Terms,
         Expected::Mark => Excess::Mark,
-        Expected::Ended => Excess::Terms,
-        Expected::Joint => Excess::Terms,
-        Expected::Or => Excess::Terms,
-        Expected::And => Excess::Terms,
-        Expected::Since => Excess::Terms,
-        Expected::Until => Excess::Terms,
         Expected::Bracket => Excess::Interval,
-        Expected::Lower => Excess::Bound,
-        Expected::Upper => Excess::Bound,
+        Expected::Lower | Expected::Upper => Excess::Bound,
+        Expected::True
+        | Expected::Not
+        | Expected::Space
+        | Expected::Ended
+        | Expected::Joint
+        | Expected::Or
+        | Expected::And
+        | Expected::Since
+        | Expected::Until => Excess::Terms,
     }
 }
 
-// Where the digits from a place on end.
-fn digits_end(text: &[u8], at: usize) -> usize
-    requires { at ≤ length text.now }
-    ensures { S.DigitsEnd text.now at result }
+// How many digits some bytes begin with.
+fn digits_end(text: &[u8]) -> usize
+    ensures { S.DigitsEnd text.now 0 result }
 {
-    let mut end = at;
-    while end < text.len() && is_digit(text[end]) {
-        end += 1;
-    }
-    end
+    let end = text.iter().position(|c| !c.is_ascii_digit());
+    end.unwrap_or(text.len())
 }
 
-// The digits from a place on, at most 20 of them.
-fn say_digits(text: &[u8], at: usize)
-    requires { at ≤ length text.now }
-{
-    let end = digits_end(text, at);
-    if end - at > 20 {
-        io::write_all(STDERR_FILENO, &text[at..at + 20]);
-        io::write_all(STDERR_FILENO, b"..");
-    } else {
-        io::write_all(STDERR_FILENO, &text[at..end]);
-    }
-}
+// The digits that some bytes begin with, at most 20 of them.
+#[derive(Clone, Copy)]
+struct Digits<'a>(&'a [u8]);
 
-// The bounds of the interval whose bracket is at a place.
-fn say_interval(text: &[u8], at: usize)
-    requires { at ≤ length text.now }
-{
-    if at < text.len() {
-        io::write_all(STDERR_FILENO, b"interval from ");
-        say_digits(text, at + 1);
-        let comma = digits_end(text, at + 1);
-        if comma < text.len() {
-            io::write_all(STDERR_FILENO, b" to ");
-            say_digits(text, comma + 1);
+impl Display for Digits<'_> {
+    fn fmt<W: fmt::Write>(&self, f: &mut Formatter<W>) -> fmt::Result {
+        let digits = &self.0[..digits_end(self.0)];
+        if digits.len() > 20 {
+            write!(f, "{}..", Visible(&digits[..20]))
+        } else {
+            write!(f, "{}", Visible(digits))
         }
     }
 }
 
-// The words of the limit that is passed at a place. Only the bytes from there on are read.
-pub fn say(e: Excess, text: &[u8], at: usize, propositions: usize)
-    requires { at ≤ length text.now }
-{
-    match e {
-        Excess::Mark => {
-            io::write_all(STDERR_FILENO, b"mark ");
-            say_digits(text, at);
-            io::write_all(STDERR_FILENO, b" of ");
-            io::print_decimal(STDERR_FILENO, propositions as u64);
+// The bounds of the interval whose bracket these bytes begin with.
+#[derive(Clone, Copy)]
+struct Bounds<'a>(&'a [u8]);
+
+impl Display for Bounds<'_> {
+    fn fmt<W: fmt::Write>(&self, f: &mut Formatter<W>) -> fmt::Result {
+        let Some((_, lower)) = self.0.split_first() else {
+            return Ok(());
+        };
+        write!(f, "interval from {}", Digits(lower))?;
+        match lower[digits_end(lower)..].split_first() {
+            Some((_, upper)) => write!(f, " to {}", Digits(upper)),
+            None => Ok(()),
         }
-        Excess::Bound => {
-            io::write_all(STDERR_FILENO, b"bound ");
-            say_digits(text, at);
-            io::write_all(STDERR_FILENO, b" above 1023");
+    }
+}
+
+// The words of a limit that is passed, how many propositions there are, and the text from there on.
+#[derive(Clone, Copy)]
+pub struct Passed<'a> {
+    pub limit: Excess,
+    pub propositions: usize,
+    pub rest: &'a [u8],
+}
+
+impl Display for Passed<'_> {
+    fn fmt<W: fmt::Write>(&self, f: &mut Formatter<W>) -> fmt::Result {
+        let rest = self.rest;
+        match self.limit {
+            Excess::Mark => write!(f, "mark {} of {}", Digits(rest), self.propositions),
+            Excess::Bound => write!(f, "bound {} above 1023", Digits(rest)),
+            Excess::Terms => write!(f, "more than 64 terms"),
+            Excess::Nesting => write!(f, "brackets nested deeper than 32"),
+            Excess::Interval => write!(f, "{}", Bounds(rest)),
         }
-        Excess::Terms => {
-            io::write_all(STDERR_FILENO, b"more than 64 terms");
-        }
-        Excess::Nesting => {
-            io::write_all(STDERR_FILENO, b"brackets nested deeper than 32");
-        }
-        Excess::Interval => say_interval(text, at),
     }
 }

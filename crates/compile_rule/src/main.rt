@@ -10,11 +10,10 @@ mod input;
 mod reason;
 mod report;
 
-use arguments::Sizes;
-use refusal::Written;
+use policy::Sizes;
 use std::io::Print;
 
-// The longest policy: 5 bytes of heading and 64 lines of 8.
+// The longest policy: 5 bytes of heading and 64 lines of 8, as many as origin::LENGTH.
 const LONGEST_POLICY: usize = 517;
 
 // The longest text that is read. The buffer has one byte more, so that a longer one is seen.
@@ -27,37 +26,30 @@ fn print(rt: &impl Print, policy: &[u8]) {
     }
 }
 
-// Prints the policy of a text, or tells why there is none. The text's bytes are then used up.
-fn compile(rt: &impl Print, text: &mut [u8], sizes: Sizes) {
+// Prints the policy of a text, or tells why there is none.
+fn compile(rt: &(impl Print + Eprint), text: &[u8], sizes: Sizes) {
     let mut policy = [0u8; LONGEST_POLICY];
-    let answer = rule_parser::compile(
+    match rule_parser::compile(
         text,
         sizes.propositions,
         sizes.components,
         sizes.minutes,
         &mut policy,
-    );
-    match answer {
-        Written::Length(n) => print(rt, &policy[0..n]),
-        Written::Refused(r) => report::refused(text, sizes.propositions, r),
+    ) {
+        Ok(n) => print(rt, &policy[..n]),
+        Err(refusal) => report::refused(rt, text, sizes.propositions, refusal),
     }
 }
 
 fn main(rt: HostRuntime) {
-    let sizes = arguments::read(&rt);
-    if !sizes.given {
-        report::usage();
+    let Some(sizes) = arguments::read(&rt) else {
+        report::usage(&rt);
         return;
-    }
-    let mut text = [0u8; 65537];
-    let read = input::fill(&mut rt.stdin(), &mut text);
-    let end = read.end;
-    if let Some(error) = read.cut {
-        failures::tell(b"input cut", error);
-    } else if end > LONGEST_TEXT {
-        report::too_long();
-    } else {
-        let length = input::without_newline(&text[0..end]);
-        compile(&rt, &mut text[0..length], sizes);
+    };
+    let mut text = [0u8; LONGEST_TEXT + 1];
+    match input::fill(&mut rt.stdin(), &mut text) {
+        Err(error) => failures::tell(b"input cut", error),
+        Ok(end) if end > LONGEST_TEXT => report::too_long(&rt),
+        Ok(end) => compile(&rt, input::without_newline(&text[..end]), sizes),
     }
 }

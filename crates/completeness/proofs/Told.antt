@@ -5,7 +5,8 @@ use Rattle.bits.specs.Bits.{bit}
 use Rattle.mtl.proofs.Folds.{below_some, some_below}
 use Rattle.policy.specs.declared.Sizes.{Sizes}
 use Rattle.message.specs.declared.Event.{Event}
-use Rattle.message.specs.Fixes.{Message, FixesNumber, FixesFact}
+use Rattle.message.specs.Fixes.{FixesNumber, FixesFact}
+use Rattle.message.specs.declared.Message.{Message}
 use Rattle.knowledge.specs.Trace.{Trace, made, time_point}
 use Rattle.knowledge.specs.Knowledge.{Knowledge, none, noted, number, Sound, Level, Full, KnownPoint, KnownNone}
 use Rattle.knowledge.proofs.Runs.{not_both}

@@ -7,7 +7,7 @@ use Rattle.knowledge.specs.Knowledge.{Knowledge, KnownPoint, KnownNone}
 use Rattle.completeness.specs.Complete.{Complete}
 use Rattle.bits.specs.Bits.{bit}
 use Rattle.message.specs.declared.Event.TheVariants.{Observation, Alive}
-use Rattle.message.specs.Fixes.{Message}
+use Rattle.message.specs.declared.Message.{Message}
 
 module _ (z : Sizes) (P : ℕ → Type 0) (w : Trace z) (Q : Message → Type 0) where
   -- a message of Q of component c, which the trace could have sent

@@ -2,7 +2,8 @@
 -- places, before minute 0 and at M: so a minute without an observation lies between two known counts that are equal.
 use Rattle.std.specs.Prelude.{ℕ, ◌<◌, ◌≡◌, Bool, true}
 use Rattle.policy.specs.declared.Sizes.{Sizes}
-use Rattle.message.specs.Fixes.{Message, FixesNumber, FixesFact}
+use Rattle.message.specs.Fixes.{FixesNumber, FixesFact}
+use Rattle.message.specs.declared.Message.{Message}
 use Rattle.knowledge.specs.Knowledge.{Knowledge, none, noted, number}
 
 -- the knowledge has what the messages of Q fix

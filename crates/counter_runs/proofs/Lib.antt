@@ -2,3 +2,4 @@ pub mod Walk
 pub mod Searching
 pub mod Putting
 pub mod Parts
+pub mod Chunks

@@ -5,7 +5,6 @@ use mathlib.Core.Bool.{Bool, true, false, cond, ◌&&◌}
 use mathlib.Core.List.{List, [], ◌∷◌}
 use Prim.Native.Nat.{ℕ, zero, suc, ◌+◌, ◌-◌, ◌*◌, ◌≤◌, ◌<◌}
 use native.Mathlib.Nat.{suc-mul, mul-le-mul_right}
-use native.Mathlib.Numerals.{add-one}
 use native.Mathlib.Omega.{arith}
 use lib.Dec.{eqb}
 use lib.ListN.{length, get_or, take, drop, length-take, length-drop}
@@ -17,9 +16,6 @@ use Rattle.knowledge.specs.Knowledge.{none, run_of, Equal, Apart, Steady, steady
 use Rattle.knowledge.specs.Run.{cell, held, told, put, may}
 use Rattle.knowledge.specs.Runs.{Within}
 use Rattle.knowledge.proofs.Runs.{steady_decides, level_decides, full_decides, steady_less, across_more}
-
-pub one_run : (c k : ℕ) → (c + 1) * k ≡ c * k + k
-one_run c k = rw add-one (suc-mul c k)
 
 pub room : (c n k : ℕ) → c < n → c * k + k ≤ n * k
 room c n k l = let h = mul-le-mul_right k l in omega (arith, suc-mul c k, h)
@@ -58,35 +54,43 @@ told_same f g m t e =
     )
     refl
 
--- the part of the list that is lent for component c of n
-module _ (l : List ℕ) (m n c at : ℕ) (long : length l ≡ n * suc m) (in_List : c < n) (start : at ≡ c * suc m) where
-  abbrev part : List ℕ
-  part = take (at + (m + 1) - at) (drop at l)
+-- a list is the run of component c
+pub record IsRun (l : List ℕ) (m c : ℕ) (part : List ℕ) : Type 0 where
+  pub long : length part ≡ suc m
+  pub at : (i : ℕ) → i < suc m → cell part i ≡ run_of l m c i
 
-  pub part_long : length part ≡ suc m
-  part_long = simp (length-take, length-drop) (omega (arith, room c n (suc m) in_List))
+-- as the c-th of n chunks, or as the slice from a place on
+pub chunk : (l : List ℕ) (m n c : ℕ) (part : List ℕ) → length l ≡ n * suc m → c < n → part ≡ take (suc m) (drop (c * suc m) l) → IsRun l m c part
+chunk l m n c part long in_list e = record { long = ap length e ∙ simp (length-take, length-drop) (omega (arith, fits)); at = at }
+  where
+    fits : c * suc m + suc m ≤ length l
+    fits = omega (arith, room c n (suc m) in_list)
 
-  part_at : (i : ℕ) → i < suc m → cell part i ≡ run_of l m c i
-  part_at i h =
-      let e : at + (m + 1) - at ≡ suc m = omega arith in
-      let inside : i < at + (m + 1) - at = omega arith in
-      get_or-take (at + (m + 1) - at) (drop at l) i 0 inside
-      ∙ get_or-drop at l i 0
-      ∙ ap (λ (x : ℕ). get_or l (x + i) 0) start
-      ∙ any_default l (c * suc m + i) 0 none (omega (arith, room c n (suc m) in_List))
+    at : (i : ℕ) → i < suc m → cell part i ≡ run_of l m c i
+    at i h =
+        ap (λ (x : List ℕ). cell x i) e
+        ∙ get_or-take (suc m) (drop (c * suc m) l) i 0 h
+        ∙ get_or-drop (c * suc m) l i 0
+        ∙ any_default l (c * suc m + i) 0 none (omega (arith, fits))
 
-  -- what is asked of the part is asked of the run
+pub slice : (l : List ℕ) (m n c at : ℕ) → length l ≡ n * suc m → c < n → at ≡ c * suc m → IsRun l m c (take (at + (m + 1) - at) (drop at l))
+slice l m n c at long in_list start =
+    let e : at + (m + 1) - at ≡ suc m = omega arith in
+    chunk l m n c (take (at + (m + 1) - at) (drop at l)) long in_list (ap₂ (λ (j k : ℕ). take j (drop k l)) e start)
+
+-- what is asked of the part is asked of the run
+module _ {l : List ℕ} {m c : ℕ} {part : List ℕ} (r : IsRun l m c part) where
   pub part_steady : steady (cell part) (length part) ≡ steady (run_of l m c) (suc m)
-  part_steady = ap (steady (cell part)) part_long ∙ steady_same (cell part) (run_of l m c) (suc m) (omega arith) part_at
+  part_steady = ap (steady (cell part)) r.long ∙ steady_same (cell part) (run_of l m c) (suc m) (omega arith) r.at
 
   pub part_is_steady : Steady (run_of l m c) (suc m) → Steady (cell part) (length part)
-  part_is_steady S = rw part_long (steady_less (cell part) (run_of l m c) (suc m) (part_at 0 (omega arith) ∙ S.first) (λ i h k. part_at i h) S)
+  part_is_steady S = rw r.long (steady_less (cell part) (run_of l m c) (suc m) (r.at 0 (omega arith) ∙ S.first) (λ i h k. r.at i h) S)
 
   pub part_may : (p v : ℕ) → p < suc m → may (cell part) (length part) p v ≡ may (run_of l m c) (suc m) p v
-  part_may p v h = rw part_long (may_same (cell part) (run_of l m c) (suc m) p v h part_at)
+  part_may p v h = rw r.long (may_same (cell part) (run_of l m c) (suc m) p v h r.at)
 
   pub part_told : (t : ℕ) → told (cell part) m t ≡ told (run_of l m c) m t
-  part_told t = told_same (cell part) (run_of l m c) m t part_at
+  part_told t = told_same (cell part) (run_of l m c) m t r.at
 
 -- soundness in its two parts
 module _ (z : Sizes) (numbers facts : List ℕ) where

@@ -1,6 +1,6 @@
 -- What reading back and reading forth from a minute find, taken together, is what the search outwards from it gives.
 -- Assumes nothing.
-use mathlib.Core.Path.{◌≡◌, refl, sym, subst}
+use mathlib.Core.Path.{◌≡◌, sym, subst}
 use mathlib.Core.Logic.{◌⊎◌, inl, inr, ⊎_elim, ◌↔◌}
 use mathlib.Core.Bool.{◌&&◌}
 use Prim.Native.Nat.{ℕ, suc, ◌+◌, ◌-◌, ◌≤◌, ◌<◌}
@@ -20,47 +20,6 @@ use Rattle.knowledge.proofs.Nearest.{read_from_to, level_narrows, full_narrows, 
 -- none of the places from `from` to before i is known
 abbrev pub Unknown : (ℕ → ℕ) → ℕ → ℕ → Type 0
 Unknown f from i = (j : ℕ) → from ≤ j → j < i → none ≤ f j
-
--- nor is the next one
-pub one_longer : (f : ℕ → ℕ) (from i k : ℕ) → Unknown f from i → none ≤ f i → k ≡ i + 1 → Unknown f from k
-one_longer f from i k u h e j l w =
-    let le : j ≤ i = omega arith in
-    ⊎_elim (λ (s : j ≡ i). subst (λ (p : ℕ). none ≤ f p) (sym s) h) (λ (v : j < i). u j l v) (eq-or-lt_of_le le)
-
--- what reading forth finds: the first known number, or none; and one place more that is not known, read before the others
-module _ (f : ℕ → ℕ) (n from : ℕ) where
-  pub found_at : (i k : ℕ) → from ≤ i → i < n → Unknown f from i → f i < none → from + k ≡ suc i
-      → Forth f n from (record { place = i; number = f i; reads = k })
-  found_at i k past within u known e = record {
-    place = record { past = past; within = omega arith; between = u; there = λ _. known };
-    number = λ _. refl;
-    nothing = λ l. absurd (let z : ⊥ = omega arith in z);
-    reads = omega arith;
-  }
-
-  pub found_none : (k : ℕ) → from ≤ n → Unknown f from n → from + k ≡ n → Forth f n from (record { place = n; number = none; reads = k })
-  found_none k past u e = record {
-    place = record { past = past; within = omega arith; between = u; there = λ l. absurd (let z : ⊥ = omega arith in z) };
-    number = λ l. absurd (let z : ⊥ = omega arith in z);
-    nothing = λ _. refl;
-    reads = omega arith;
-  }
-
-  pub found_past : (r : Found) → from < n → none ≤ f from → Forth f n (from + 1) r
-      → Forth f n from (record { place = r.place; number = r.number; reads = 1 + r.reads })
-  found_past r within h F =
-      let past = F.place.past in
-      let counted = F.reads in
-      record {
-        place = record { past = omega arith; within = F.place.within; between = between; there = F.place.there };
-        number = F.number;
-        nothing = F.nothing;
-        reads = omega arith;
-      }
-    where
-      between : Unknown f from r.place
-      between j l w =
-          ⊎_elim (λ (s : from ≡ j). subst (λ (p : ℕ). none ≤ f p) s h) (λ (v : from < j). F.place.between j (omega arith) w) (eq-or-lt_of_le l)
 
 -- where the first place is known, so is the one that is found
 pub known_before : (f : ℕ → ℕ) (place : ℕ) (r : Found) → f 0 < none → Back f place r → Previous f place r.place

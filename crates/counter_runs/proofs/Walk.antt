@@ -15,9 +15,6 @@ pub record Walked (f : ℕ → ℕ) (p : ℕ) : Type 0 where
   pub steady : Steady f (suc p)
   pub known : f p < none
 
-pub start : (f : ℕ → ℕ) → f 0 ≡ 0 → Walked f 0
-start f e = record { steady = record { first = e; pairs = λ b p a q k m. absurd (let z : ⊥ = omega arith in z) }; known = omega arith }
-
 -- between p and its next known place no place is known
 pub not_between : (f : ℕ → ℕ) (n p q b : ℕ) → Next f n (p + 1) q → f b < none → b < q → b ≤ p
 not_between f n p q b N k l =

@@ -10,8 +10,8 @@ ghost use Rattle.knowledge.specs.Outwards.{full_gap, Outwards};
 
 use knowledge::{Found, NONE, Search};
 
-// Reads forth from `from` to the first known number, or to the run's end. It reads two places a turn: a turn of one is so short that it takes
-// one cycle or two, by where it is linked.
+// Reads forth from `from` to the first known number, or to the run's end. It reads two places a turn, and so counts them by hand: a turn of one, as
+// of a `for`, is so short that it takes one cycle or two, by where it is linked.
 fn skip_unknown(run: &[u16], from: usize) -> Found
     requires { from ≤ length run.now }
     ensures { Forth (cell run.now) (length run.now) from result }
@@ -93,23 +93,20 @@ fn previous_known(run: &[u16], place: usize) -> Found
     requires { (0 < place) × (place ≤ length run.now) }
     ensures { Back (cell run.now) place result }
 {
-    let mut reads: usize = 0;
-    while reads < place {
-        let i = place - 1 - reads;
+    for i in (0..place).rev() {
         let v = run[i];
-        reads += 1;
         if v < NONE {
             return Found {
                 place: i,
                 number: v,
-                reads,
+                reads: place - i,
             };
         }
     }
     Found {
         place: 0,
         number: NONE,
-        reads,
+        reads: place,
     }
 }
 
@@ -149,13 +146,11 @@ fn follows(v: u16, w: u16, d: usize) -> bool
     requires { d < 65536 }
     ensures { result ≡ follow v w d }
 {
-    if w < v {
-        return false;
-    }
-    w as usize <= v as usize + d
+    v <= w && w as usize <= v as usize + d
 }
 
-// Is the run steady? What holds of neighbours among its known places holds of any two: p is a known place, or the run's end, and v its number.
+// Is the run steady? What holds of neighbours among its known places holds of any two: p is a known place, or the run's end, and v its number. It
+// goes from known place to known place: a loop over all places, with a jump for those known, cost 19 cycles more for each, by where it was linked.
 fn is_steady(run: &[u16]) -> bool
     requires { (0 < length run.now) × (length run.now ≤ suc most_minutes) }
     ensures { result ≡ steady (cell run.now) (length run.now) }
@@ -180,7 +175,7 @@ fn is_steady(run: &[u16]) -> bool
     true
 }
 
-// May the number v be stored at the place?
+// May the number v be stored at the place? That the run is steady stands in a clause: `is_steady` and the searches read runs of which it isn't known.
 pub fn may_store(run: &[u16], place: usize, v: u16) -> bool
     requires { (length run.now ≤ suc most_minutes)
         × Steady (cell run.now) (length run.now)
@@ -205,20 +200,10 @@ pub fn may_store(run: &[u16], place: usize, v: u16) -> bool
     true
 }
 
-// Is every component's run steady?
+// Is every component's run steady? The chunks are as many as the components, so that their number stands in the contract alone.
 pub fn are_steady(numbers: &[u16], components: usize, minutes: usize) -> bool
     requires { (minutes ≤ most_minutes) × (length numbers.now ≡ components * suc minutes) }
     ensures { result ≡ all two 0 components (λ c. steady (run_of numbers.now minutes c) (suc minutes)) }
 {
-    let mut c: usize = 0;
-    let mut at: usize = 0;
-    while c < components {
-        let end = at + (minutes + 1);
-        if !is_steady(&numbers[at..end]) {
-            return false;
-        }
-        at = end;
-        c += 1;
-    }
-    true
+    numbers.chunks_exact(minutes + 1).all(is_steady)
 }

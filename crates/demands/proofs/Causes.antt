@@ -1,13 +1,12 @@
 -- Each refusal has its own cause. A call is refused as its list of checks says (the law of checks), the policy's checks answer 1 to 4 only, and each
 -- check after them one number: so a number's cause is that the checks before its own pass and its own fails.
-use Rattle.std.specs.Prelude.{ℕ, ◌≤◌, ◌≡◌, Bool, true, false, ◌↔◌, ◌⊎◌, List, [], ◌∷◌, ◌++◌}
+use Rattle.std.specs.Prelude.{ℕ, ◌≤◌, ◌≡◌, Bool, true, false, ◌↔◌, ◌⊎◌, List, [], ◌∷◌, ◌++◌, Err, Ok}
 use Rattle.std.proofs.Common.{arith, sym, ap, subst, ◌∙◌, true≢false}
 use Rattle.std.proofs.Math.Path.{refl}
 use Rattle.std.proofs.Math.Logic.{inl, inr}
 use Rattle.refusal.specs.declared.Refusal.{Refusal}
 use Rattle.refusal.specs.declared.Refusal.TheVariants.{TruncatedPolicy, BadHeading, BadSubformula, RuleCount, BufferSize, CorruptKnowledge, TruncatedMessage, BadMessage, Conflict, OtherPolicy}
-use Rattle.refusal.specs.declared.Answer.{Answer as Checked}
-use Rattle.refusal.specs.declared.Answer.TheVariants as C
+use Rattle.refusal.specs.Checks.{Checked, reply}
 use Rattle.refusal.specs.Numbers.{refusal_number, refusal_place, refusal_of}
 use Rattle.refusal.specs.Checks.{Check, check, first_failed, Passed as AllPassed, none, pass, Refuses, here, there}
 use Rattle.refusal.proofs.Laws.{refusal_law, passing_law, refused_before, refused_after, passed_both, passed_parts, refused_where, number_law, not_accepted}
@@ -21,11 +20,10 @@ use Rattle.knowledge.specs.Knowledge.{Sound, sound, admits}
 use Rattle.knowledge.specs.Laws.{Limits}
 use Rattle.knowledge.proofs.Laws.{sound_law}
 use Rattle.knowledge.proofs.Conflict.{admits_law}
-use Rattle.monitor.specs.declared.Answer.TheVariants.{Done}
 use Rattle.origin.specs.Origin.{origin_of, opened_under}
 use Rattle.origin.proofs.Origin.{under_law}
-use Rattle.monitor.specs.State.{State, Outcome, unless, Sized, sized, opened, settled, slip_checks, origin_checks, record_checks, opening_checks, take_checks, open_state, receive, Taken}
-use Rattle.monitor.specs.Demands.{sizes_of, SomeTrace, reply, PolicyCauses, PolicyPassed, OpeningCauses, Passed, TakeCauses}
+use Rattle.monitor.specs.State.{State, Outcome, unless, Sized, sized, opened, opened_as, settled, slip_checks, origin_checks, record_checks, opening_checks, take_checks, open_state, receive, Taken}
+use Rattle.monitor.specs.Demands.{sizes_of, SomeTrace, PolicyCauses, PolicyPassed, OpeningCauses, Passed, TakeCauses}
 use Rattle.monitor.proofs.Laws.{knowledge_sized, sized_law}
 use Rattle.monitor.proofs.Leaves.{unwritten}
 
@@ -85,9 +83,9 @@ pub both_ways : {A B X Y : Type 0} → A ↔ B → X ↔ Y → (A × X) ↔ (B �
 both_ways f g = (λ q. (f.0 q.0, g.0 q.1), λ q. (f.1 q.0, g.1 q.1))
 
 -- a call's answer is that of its checks
-pub reply_unless : (a : Checked) (x : State) (o : Outcome) → reply o.answer ≡ C.Accepted → reply (unless a x o).answer ≡ a
-reply_unless C.Accepted x o e = e
-reply_unless (C.Refused r) x o e = refl
+pub reply_unless : {A : Type 0} (a : Checked) (x : State) (o : Outcome A) → reply o.answer ≡ Ok tt → reply (unless a x o).answer ≡ a
+reply_unless (Ok _) x o e = e
+reply_unless (Err r) x o e = refl
 
 -- the checks of the slip: 7 to 9
 pub slip_number : (s : List ℕ) (x : State) (b : List ℕ) (r : Refusal) → Refuses (slip_checks (policy_of s) x b) r → (7 ≤ refusal_number r) × (refusal_number r ≤ 9)
@@ -143,21 +141,24 @@ module _ (s : List ℕ) (k : PolicyReaderCauses s) where
 
     -- ---- an opening
 
-    done_law : (a : Checked) → ((unless a x (record { answer = Done; state = opened (policy_of s) (origin_of s) })).answer ≡ Done) ↔ (a ≡ C.Accepted)
-    done_law C.Accepted = (λ e. refl, λ e. refl)
-    done_law (C.Refused r) = (λ e. ap reply e, λ e. absurd (not_accepted r e))
+    abbrev done_state : Outcome (Unit {0})
+    done_state = opened_as (opened (policy_of s) (origin_of s))
+
+    done_law : (a : Checked) → ((unless a x done_state).answer ≡ Ok tt) ↔ (a ≡ Ok tt)
+    done_law (Ok _) = (λ e. refl, λ e. refl)
+    done_law (Err r) = (λ e. ap reply e, λ e. absurd (not_accepted r e))
 
     pub opening_causes : OpeningCauses s x (open_state s x)
     unfolding open_state
     opening_causes =
         let cs = opening_checks s x in
-        let e = reply_unless (first_failed cs) x (record { answer = Done; state = opened (policy_of s) (origin_of s) }) refl in
+        let e = reply_unless (first_failed cs) x done_state refl in
         record {
           policy = rw e (policy_part cs sizes_policy);
           five = λ at. rw e (via (number_law cs 5 at) (at_zero_two misfit));
           no_other = λ n at. rw e (λ w. in_range n at ((number_law cs n at).0 w));
           done = via (done_law (first_failed cs)) (via (passing_law cs) passed_sizes);
-          unwritten = unwritten (first_failed cs) x (record { answer = Done; state = opened (policy_of s) (origin_of s) }) refl;
+          unwritten = unwritten (first_failed cs) x done_state refl;
         }
       where
         in_range : (n at : ℕ) → Refuses (opening_checks s x) (refusal_of n at) × (refusal_number (refusal_of n at) ≡ n) × (refusal_place (refusal_of n at) ≡ at) → (1 ≤ n) × (n ≤ 5)
@@ -236,8 +237,8 @@ module _ (s : List ℕ) (k : PolicyReaderCauses s) where
 
     -- ---- a take
 
-    module _ (b : List ℕ) (km : MessageReaderCauses (sizes_of s) b) (limits : policy_answer s ≡ C.Accepted → Limits (sizes_of s))
-        (ranged : policy_answer s ≡ C.Accepted → WellFormed (sizes_of s) b → Fits (sizes_of s) (meaning_of b)) where
+    module _ (b : List ℕ) (km : MessageReaderCauses (sizes_of s) b) (limits : policy_answer s ≡ Ok tt → Limits (sizes_of s))
+        (ranged : policy_answer s ≡ Ok tt → WellFormed (sizes_of s) b → Fits (sizes_of s) (meaning_of b)) where
       abbrev free : Bool
       free = admits (sizes_of s) x.known (meaning_of b)
 
@@ -265,7 +266,7 @@ module _ (s : List ℕ) (k : PolicyReaderCauses s) where
           not_there (inr h) = omega (arith, h, n)
 
       -- the message's own checks
-      in_message : (r : Refusal) → refusal_number r ≤ 8 → Refuses slip r ↔ (message_answer (sizes_of s) b ≡ C.Refused r)
+      in_message : (r : Refusal) → refusal_number r ≤ 8 → Refuses slip r ↔ (message_answer (sizes_of s) b ≡ Err r)
       unfolding message_answer
       in_message r l =
           via (refused_before (message_checks (sizes_of s) b) (check free Conflict ∷ []) r (λ q. omega (arith, one_number free Conflict r q)))
@@ -295,9 +296,9 @@ module _ (s : List ℕ) (k : PolicyReaderCauses s) where
           back_to : Passed s x × WellFormed (sizes_of s) b × (SomeTrace (sizes_of s) x.known (meaning_of b) → ⊥) → Passed s x × Refuses slip Conflict
           back_to q = (q.0, law.1 (q.1, (decided (agreed q.0 q.1)).1 q.2))
 
-      taken_law : (a : Checked) → Taken (unless a x (settled (policy_of s) x (meaning_of b))).answer ↔ (a ≡ C.Accepted)
-      taken_law C.Accepted = (λ u. refl, λ e. tt)
-      taken_law (C.Refused r) = (λ u. absurd u, λ e. absurd (not_accepted r e))
+      taken_law : (a : Checked) → Taken (unless a x (settled (policy_of s) x (meaning_of b))).answer ↔ (a ≡ Ok tt)
+      taken_law (Ok _) = (λ u. refl, λ e. tt)
+      taken_law (Err r) = (λ u. absurd u, λ e. absurd (not_accepted r e))
 
       passed_all : AllPassed (take_checks s x b) ↔ (Passed s x × WellFormed (sizes_of s) b × SomeTrace (sizes_of s) x.known (meaning_of b))
       passed_all = (there_is, back_to)

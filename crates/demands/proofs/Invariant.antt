@@ -11,7 +11,8 @@ use Rattle.policy.specs.declared.Policy.{Policy}
 use Rattle.policy.specs.Proper.{Proper}
 use Rattle.message.specs.declared.Event.{Event}
 use Rattle.message.specs.declared.Event.TheVariants.{Observation, Alive}
-use Rattle.message.specs.Fixes.{Message, FixesNumber, FixesFact, Fits, FitsEvent}
+use Rattle.message.specs.Fixes.{FixesNumber, FixesFact, Fits, FitsEvent}
+use Rattle.message.specs.declared.Message.{Message}
 use Rattle.knowledge.specs.Knowledge.{Knowledge, none, number, Sound, sound, fresh, put_facts, stored, free, admits, Sized as Long}
 use Rattle.knowledge.proofs.Laws.{Free, free_law, sound_law}
 use Rattle.knowledge.specs.Store.{Fact}

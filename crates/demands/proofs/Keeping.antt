@@ -15,7 +15,8 @@ use Rattle.rows.proofs.Grid.{table_at, row_of, place_of, in_grid, row_in, place_
 use Rattle.policy.specs.declared.Policy.{Policy}
 use Rattle.policy.specs.declared.Sizes.{Sizes}
 use Rattle.policy.specs.Proper.{Proper, formula_at}
-use Rattle.message.specs.Fixes.{Message, FixesNumber, FixesFact}
+use Rattle.message.specs.Fixes.{FixesNumber, FixesFact}
+use Rattle.message.specs.declared.Message.{Message}
 use Rattle.knowledge.specs.Trace.{Trace, made, Admits}
 use Rattle.knowledge.specs.Knowledge.{Knowledge, none, noted, valued, number, Sound, Agrees, KnownPoint, is_point, world}
 use Rattle.knowledge.proofs.Laws.{point_law}

@@ -1,38 +1,32 @@
 -- Each answer of a look has its own cause: the policy's checks answer 1 to 4 only, then one check each gives 5 and 10.
-use Rattle.std.specs.Prelude.{ℕ, ◌*◌, ◌≤◌, ◌<◌, ◌≡◌, refl, Bool, true, ◌&&◌, ◌↔◌, ◌⊎◌, List, [], ◌∷◌, eqb, ltb, length}
+use Rattle.std.specs.Prelude.{ℕ, ◌*◌, ◌≤◌, ◌<◌, ◌≡◌, refl, Bool, true, ◌&&◌, ◌↔◌, ◌⊎◌, List, [], ◌∷◌, eqb, ltb, length, Err, Ok, Result}
 use Rattle.std.proofs.Common.{arith, ap, eqb-true, eq-eqb, ltb-true, lt-ltb}
 use Rattle.std.proofs.Math.Logic.{inl, inr}
 use Rattle.refusal.specs.declared.Refusal.{Refusal}
 use Rattle.refusal.specs.declared.Refusal.TheVariants.{BufferSize, OutOfRange}
-use Rattle.refusal.specs.declared.Answer.{Answer as Checked}
-use Rattle.refusal.specs.declared.Answer.TheVariants as C
+use Rattle.refusal.specs.Checks.{Checked, give_unless, reply}
 use Rattle.refusal.specs.Numbers.{refusal_number, refusal_place, refusal_of}
 use Rattle.refusal.specs.Checks.{Check, check, first_failed, Passed as AllPassed, Refuses, here, there}
-use Rattle.refusal.proofs.Laws.{passing_law, refused_before, refused_after, refused_where, passed_both, passed_parts, number_law, not_accepted}
+use Rattle.refusal.proofs.Laws.{passing_law, refused_before, refused_after, refused_where, passed_both, passed_parts, number_law, not_accepted, replied}
 use Rattle.logic.proofs.Bools.{both, pair}
 use Rattle.policy.specs.Format.{policy_checks, policy_of}
 use Rattle.policy.specs.Proper.{Causes as PolicyReaderCauses}
 use Rattle.policy.proofs.Answered.{policy_refuses}
 use Rattle.monitor.specs.declared.Verdict.{Verdict}
 use Rattle.monitor.specs.declared.Verdict.TheVariants.{Unknown, Satisfied, Violated}
-use Rattle.monitor.specs.declared.Look.TheVariants as L
-use Rattle.monitor.specs.Lookup.{verdict_of, show_unless, sheet_checks, look_checks, lookup_of}
+use Rattle.monitor.specs.Lookup.{verdict_of, sheet_checks, look_checks, lookup_of}
 use Rattle.monitor.proofs.Codes.{code_of_kept, code_of_broken, code_of_blank}
-use Rattle.monitor.specs.Demands.{sizes_of, PolicyPassed, look_reply, OnSheet, code, LookCauses}
+use Rattle.monitor.specs.Demands.{sizes_of, PolicyPassed, OnSheet, code, LookCauses}
 use Rattle.demands.proofs.Causes.{via, same, both_ways, at_zero_two, at_zero_three, one_fails, one_passes, one_number, decided, passed_policy, policy_part, after_policy}
 
-same_verdict : (v w : Verdict) → L.Shows v ≡ L.Shows w → v ≡ w
+same_verdict : (v w : Verdict) → ◌≡◌ {A = Result Verdict Refusal} (Ok v) (Ok w) → v ≡ w
 same_verdict v w e = cc
 
 -- ---- the answers
 
-reply_show : (a : Checked) (v : Verdict) → look_reply (show_unless a v) ≡ a
-reply_show C.Accepted v = refl
-reply_show (C.Refused r) v = refl
-
-shows : (a : Checked) (v w : Verdict) → (show_unless a v ≡ L.Shows w) ↔ ((a ≡ C.Accepted) × (v ≡ w))
-shows C.Accepted v w = (λ e. (refl, same_verdict v w e), λ q. ap L.Shows q.1)
-shows (C.Refused r) v w = (λ e. absurd (not_accepted r (ap look_reply e)), λ q. absurd (not_accepted r q.0))
+shows : (a : Checked) (v w : Verdict) → (give_unless a v ≡ Ok w) ↔ ((a ≡ Ok tt) × (v ≡ w))
+shows (Ok _) v w = (λ e. (refl, same_verdict v w e), λ q. ap Ok q.1)
+shows (Err r) v w = (λ e. absurd (not_accepted r (ap reply e)), λ q. absurd (not_accepted r q.0))
 
 module _ (s verdicts : List ℕ) (rule minute : ℕ) (k : PolicyReaderCauses s) where
   abbrev fits : Bool
@@ -89,14 +83,14 @@ module _ (s verdicts : List ℕ) (rule minute : ℕ) (k : PolicyReaderCauses s) 
       (both_ways (via (one_passes fits BufferSize) sized_law) (via (one_fails inside OutOfRange) (decided inside_law)))))
       (λ q. (q.0, q.1.0, q.1.1), λ q. (q.0, (q.1, q.2))))
 
-  shown : (v : Verdict) {B : Type 0} → (verdict_of (code s verdicts rule minute) ≡ v) ↔ B → (lookup_of s verdicts rule minute ≡ L.Shows v) ↔ (OnSheet s verdicts rule minute × B)
+  shown : (v : Verdict) {B : Type 0} → (verdict_of (code s verdicts rule minute) ≡ v) ↔ B → (lookup_of s verdicts rule minute ≡ Ok v) ↔ (OnSheet s verdicts rule minute × B)
   unfolding lookup_of
   shown v f = via (shows (first_failed cs) (verdict_of (code s verdicts rule minute)) v) (both_ways (via (passing_law cs) on_sheet) f)
 
   pub look_causes : LookCauses s verdicts rule minute (lookup_of s verdicts rule minute)
   unfolding lookup_of
   look_causes =
-      let e = reply_show (first_failed cs) (verdict_of (code s verdicts rule minute)) in
+      let e = replied (first_failed cs) (verdict_of (code s verdicts rule minute)) in
       record {
         policy = rw e (policy_part s k cs policy_first);
         five = λ at. rw e (via (number_law cs 5 at) (at_zero_two misfit));

@@ -1,6 +1,6 @@
 -- Packets, proved: a packet is its takes one by one, so a list that holds packets is a list of takes, of which demand 3 speaks. Where all that such a
 -- list brings is well_formed and one trace admits it, no take is refused, and so it does not matter how it is packed.
-use Rattle.std.specs.Prelude.{ℕ, ◌+◌, ◌≤◌, ◌<◌, ◌≡◌, refl, ◌⊎◌, ◌↔◌, ◌≢◌, length, take}
+use Rattle.std.specs.Prelude.{ℕ, ◌+◌, ◌≤◌, ◌<◌, ◌≡◌, refl, ◌⊎◌, ◌↔◌, ◌≢◌, length, take, Ok}
 use Rattle.std.proofs.Common.{arith, sym, ap, ap₂, subst, ◌∙◌, inl, inr}
 use mathlib.Core.List.Memᴰ
 use mathlib.Core.List.{List, [], ◌∷◌, ◌++◌, map, append-nil, append_assoc, Memᴰ}
@@ -10,9 +10,9 @@ use Rattle.policy.specs.Format.{policy_of}
 use Rattle.message.specs.Format.{messages_of}
 use Rattle.message.specs.Packet.{Packed}
 use Rattle.message.proofs.First.{packed, only_packed}
-use Rattle.message.specs.Fixes.{Message, WellFormed, meaning_of}
+use Rattle.message.specs.Fixes.{WellFormed, meaning_of}
+use Rattle.message.specs.declared.Message.{Message}
 use Rattle.knowledge.specs.Trace.{Trace, Admits, AdmitsAll}
-use Rattle.monitor.specs.declared.Answer.TheVariants.{Done}
 use Rattle.monitor.specs.State.{State, open_state, receive, PacketOutcome, take_each, receive_packet, Call, Receive, run_calls, after, Taken, accepted_from, accepted, Offers, by_take, Offered, Entry, Single, Packet, entry_state, entry_accepted, offers_each, entry_takes, run_entries, accepted_entries, takes_entries}
 use Rattle.monitor.specs.Demands.{sizes_of, shown, Plain, EachTaken, bytes_in, Same, Packets, after_entries, accepted_in, takes_of, Brings, alone, inside, Brought, Demand3Packets}
 use Rattle.demands.proofs.Runs.{run_append}
@@ -181,7 +181,7 @@ brought_law b es = (λ q. there es q.entry q.is_entry q.brings, back es)
         go f (inr k) = let q = f k in record { entry = q.entry; is_entry = Memᴰ.tail q.is_entry; brings = q.brings }
 
 -- where all of it is well_formed and the trace w admits it, all of it is offered, and taken
-module _ (s : List ℕ) (x : State) (d : (open_state s x).answer ≡ Done) (w : Trace (sizes_of s)) where
+module _ (s : List ℕ) (x : State) (d : (open_state s x).answer ≡ Ok tt) (w : Trace (sizes_of s)) where
   abbrev Good : List ℕ → Type 0
   Good b = WellFormed (sizes_of s) b × Admits (sizes_of s) w (meaning_of b)
 
@@ -265,7 +265,7 @@ demand_3_packets = record {
       (p, z.0, z.1);
 }
   where
-    same : (s : List ℕ) (x y : State) → (open_state s x).answer ≡ Done → (open_state s y).answer ≡ Done → (xs ys : List Entry)
+    same : (s : List ℕ) (x y : State) → (open_state s x).answer ≡ Ok tt → (open_state s y).answer ≡ Ok tt → (xs ys : List Entry)
         → ((b : List ℕ) → WellFormed (sizes_of s) b → Offered b (takes_of s x xs) ↔ Offered b (takes_of s y ys))
         → (w : Trace (sizes_of s))
         → ((b : List ℕ) → Offered b (takes_of s x xs) → WellFormed (sizes_of s) b → Admits (sizes_of s) w (meaning_of b))

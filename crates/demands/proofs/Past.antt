@@ -1,5 +1,5 @@
 -- Laws of the definitions in specs/Past. Assumes nothing.
-use Rattle.std.specs.Prelude.{ℕ, ◌≡◌, refl, Bool, true, false, ◌&&◌, ◌||◌, eqb}
+use Rattle.std.specs.Prelude.{ℕ, ◌≡◌, refl, Bool, true, false, ◌&&◌, ◌||◌, eqb, Ok}
 use Rattle.std.proofs.Common.{arith, sym, ap, true≢false, inl, inr, ne_eqb}
 use mathlib.Core.List.Memᴰ
 use mathlib.Core.List.{[], ◌∷◌}
@@ -15,7 +15,6 @@ use Rattle.message.specs.Fixes.{FixesNumber, FixesFact, meaning_of}
 use Rattle.knowledge.specs.Trace.{Trace, made, AdmitsAll, time_point}
 use Rattle.knowledge.specs.Knowledge.{follow, steady, level, full, word_sound, words_agree, noted, valued, number, is_point, is_none, sound, fresh, stored, free, admits}
 use Rattle.valuation.specs.Sheets.{valuation_of, verdicts_of, standing}
-use Rattle.monitor.specs.declared.Answer.TheVariants.{Done}
 use Rattle.origin.specs.Origin.{origin_of, opened_under}
 use Rattle.monitor.specs.State.{State, sizes_fit, opened, open_state, receive, Receive, run_calls, accepted_from, accepted}
 use Rattle.monitor.specs.Demands.{sizes_of, shown, rule_line, kept, broken}
@@ -42,7 +41,7 @@ said_facts : (late : Bool) (i t : ℕ) (b : Bool) → FixesFact (meaning_of fals
 unfolding digit below expanded bit since until deep reading line_length fields_at keeps_kind good_line meaning formula_of subformula_of subformula_at heading_checks offset line_checks lines_checks lines_up_to subformulas_of rule_lines rules_up_to closing_checks policy_checks policy_answer policy_of component_of minute_of number_of named_of packed_of length_of fields_of good_alive good_observation all_written good_fields message_answer event_in meaning_of noted valued number is_point is_none sound fresh stored free admits valuation_of verdicts_of standing sizes_fit opened opened_under receive follow steady level full word_sound words_agree
 said_facts late i t b q = rw (q.0, q.2) (sym (bit_of_zero i))
 
-pub past_the_last_minute : (y : State) → (open_state U y).answer ≡ Done → PastTheLastMinute y
+pub past_the_last_minute : (y : State) → (open_state U y).answer ≡ Ok tt → PastTheLastMinute y
 unfolding digit below expanded bit since until deep reading line_length fields_at keeps_kind good_line meaning formula_of subformula_of subformula_at heading_checks offset line_checks lines_checks lines_up_to subformulas_of rule_lines rules_up_to closing_checks policy_checks policy_answer policy_of component_of minute_of number_of named_of packed_of length_of fields_of good_alive good_observation all_written good_fields message_answer event_in meaning_of noted valued number is_point is_none sound fresh stored free admits valuation_of verdicts_of standing sizes_fit opened opened_under receive follow steady level full word_sound words_agree
 past_the_last_minute y d =
     let u : (open_state U y).state ≡ opened (policy_of U) (origin_of U) = (opens U y d).state in

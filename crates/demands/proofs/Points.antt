@@ -1,6 +1,6 @@
 -- Which minutes are known busy and known quiet (02, request 4), proved: of a sound record in the crate knowledge, and from there of demand 3's lists.
 -- Assumes nothing.
-use Rattle.std.specs.Prelude.{ℕ, ◌<◌, ◌≡◌, Bool, ◌↔◌}
+use Rattle.std.specs.Prelude.{ℕ, ◌<◌, ◌≡◌, Bool, ◌↔◌, Ok}
 use Rattle.std.proofs.Common.{sym, subst}
 use mathlib.Core.List.{List, Memᴰ}
 use Rattle.policy.specs.Format.{policy_of}
@@ -8,7 +8,6 @@ use Rattle.policy.proofs.Laws.{accepted as policy_proper}
 use Rattle.knowledge.specs.Trace.{Trace, AdmitsAll, time_point}
 use Rattle.knowledge.specs.Exact.{InAll, ExactPoints}
 use Rattle.knowledge.proofs.Exact.{exact_points}
-use Rattle.monitor.specs.declared.Answer.TheVariants.{Done}
 use Rattle.origin.specs.Origin.{origin_of}
 use Rattle.monitor.specs.State.{State, open_state, run_calls, Call, after, accepted_from, accepted}
 use Rattle.monitor.specs.Demands.{sizes_of, TimePoints}
@@ -17,7 +16,7 @@ use Rattle.demands.proofs.Keeping.{agrees_law}
 use Rattle.demands.proofs.Runs.{start}
 use Rattle.demands.proofs.Proved.{opens, ranged}
 
-module _ (s : List ℕ) (x : State) (d : (open_state s x).answer ≡ Done) (cs : List Call) where
+module _ (s : List ℕ) (x : State) (d : (open_state s x).answer ≡ Ok tt) (cs : List Call) where
   pub up : KeptUp (policy_of s) (origin_of s) (after s x cs) (λ m. Memᴰ m (accepted s x cs))
   up =
       let o = opens s x d in

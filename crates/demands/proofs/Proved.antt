@@ -1,6 +1,5 @@
 -- The demands, proved: each is one inhabitant of its type in Demands.
-use Rattle.refusal.specs.declared.Answer.TheVariants as C
-use Rattle.std.specs.Prelude.{ℕ, ◌+◌, ◌*◌, ◌≤◌, ◌<◌, ◌≡◌, Bool, cond, ◌⊎◌, ◌↔◌, ◌≢◌, List, [], ◌∷◌, ◌++◌, length}
+use Rattle.std.specs.Prelude.{ℕ, ◌+◌, ◌*◌, ◌≤◌, ◌<◌, ◌≡◌, Bool, cond, ◌⊎◌, ◌↔◌, ◌≢◌, List, [], ◌∷◌, ◌++◌, length, Err, Ok}
 use Rattle.std.proofs.Common.{arith, sym, ap, ◌∙◌, inl, inr, ne_eqb}
 use Rattle.std.proofs.Math.Path.{refl}
 use Rattle.std.proofs.Math.Bool.{true}
@@ -8,7 +7,7 @@ use Rattle.logic.proofs.Bools.{both}
 use Rattle.rows.proofs.Laws.{zeros}
 use Rattle.refusal.specs.declared.Refusal.{Refusal}
 use Rattle.refusal.specs.declared.Refusal.TheVariants.{Conflict}
-use Rattle.refusal.specs.declared.Answer.{Answer as Checked}
+use Rattle.refusal.specs.Checks.{Checked, reply}
 use Rattle.refusal.proofs.Table.{table}
 use Rattle.refusal.specs.Checks.{check, first_failed, Passed as AllPassed, none as no_more, pass}
 use Rattle.refusal.proofs.Laws.{passing_law, passed_parts, not_accepted, same_refusal, the_refusal}
@@ -18,7 +17,8 @@ use Rattle.policy.specs.Proper.{Proper}
 use Rattle.policy.proofs.Laws.{accepted as policy_proper, short}
 use Rattle.policy.proofs.Answered.{causes as policy_causes}
 use Rattle.message.specs.Format.{message_checks}
-use Rattle.message.specs.Fixes.{Message, FixesNumber, FixesFact, Fits, WellFormed, meaning_of}
+use Rattle.message.specs.Fixes.{FixesNumber, FixesFact, Fits, WellFormed, meaning_of}
+use Rattle.message.specs.declared.Message.{Message}
 use Rattle.message.proofs.Laws.{fits, causes as message_causes}
 use Rattle.knowledge.specs.Trace.{Trace, Admits, AdmitsAll}
 use Rattle.knowledge.specs.Knowledge.{Sized as Long, Knowledge, none, noted, valued, number, sound, fresh, stored, free, admits}
@@ -28,12 +28,11 @@ use Rattle.knowledge.specs.Store.{Fact}
 use Rattle.knowledge.proofs.Store.{number_hit, number_either, fact_hit, fact_cases}
 use Rattle.knowledge.proofs.Witness.{agreed}
 use Rattle.valuation.specs.Sheets.{verdicts_of, standing}
-use Rattle.monitor.specs.declared.Answer.{Answer}
-use Rattle.monitor.specs.declared.Answer.TheVariants.{Done, Received, Refused}
+use Rattle.monitor.specs.State.{Received}
 use Rattle.origin.specs.Origin.{origin_of}
 use Rattle.origin.proofs.Origin.{origin_long, holds_law}
-use Rattle.monitor.specs.State.{State, Outcome, unless, opened, over, settled, slip_checks, record_checks, opening_checks, take_checks, open_state, receive, Call, run_calls, after, Taken, accepted_from, accepted, Offered}
-use Rattle.monitor.specs.Demands.{sizes_of, shown, SomeTrace, Plain, reply, Passed, Demand1, Opened, Gains, Demand2, Sends, Same, Demand3}
+use Rattle.monitor.specs.State.{State, Outcome, unless, opened, opened_as, over, settled, slip_checks, record_checks, opening_checks, take_checks, open_state, receive, Call, run_calls, after, Taken, accepted_from, accepted, Offered}
+use Rattle.monitor.specs.Demands.{sizes_of, shown, SomeTrace, Plain, Passed, Demand1, Opened, Gains, Demand2, Sends, Same, Demand3}
 use Rattle.monitor.proofs.Laws.{knowledge_sized, fresh_number, fresh_first, fresh_facts}
 use Rattle.monitor.proofs.Leaves.{kept_origin}
 use Rattle.demands.proofs.Invariant.{KeptUp, opened_up}
@@ -45,10 +44,10 @@ use Rattle.demands.specs.Opened.{OpenedState}
 
 -- ---- what an accepted card gives
 
-limits : (s : List ℕ) → policy_answer s ≡ C.Accepted → Limits (sizes_of s)
+limits : (s : List ℕ) → policy_answer s ≡ Ok tt → Limits (sizes_of s)
 limits s e = let p = policy_proper s e in record { propositions_most = p.propositions.high; minutes_most = p.minutes.high }
 
-pub ranged : (s : List ℕ) → policy_answer s ≡ C.Accepted → (b : List ℕ) → WellFormed (sizes_of s) b → Fits (sizes_of s) (meaning_of b)
+pub ranged : (s : List ℕ) → policy_answer s ≡ Ok tt → (b : List ℕ) → WellFormed (sizes_of s) b → Fits (sizes_of s) (meaning_of b)
 ranged s e b w = fits (sizes_of s) (policy_proper s e).propositions.high b w
 
 -- ---- demand 1
@@ -63,17 +62,17 @@ demand_1 = record {
 
 -- ---- an opening
 
-pub opens : (s : List ℕ) (x : State) → (open_state s x).answer ≡ Done → OpenedState s (open_state s x)
+pub opens : (s : List ℕ) (x : State) → (open_state s x).answer ≡ Ok tt → OpenedState s (open_state s x)
 unfolding open_state policy_answer
 opens s x d = go (first_failed (opening_checks s x)) refl d
   where
-    go : (a : Checked) → first_failed (opening_checks s x) ≡ a → (unless a x (record { answer = Done; state = opened (policy_of s) (origin_of s) })).answer ≡ Done
-        → OpenedState s (unless a x (record { answer = Done; state = opened (policy_of s) (origin_of s) }))
-    go C.Accepted e f = record {
+    go : (a : Checked) → first_failed (opening_checks s x) ≡ a → (unless a x (opened_as (opened (policy_of s) (origin_of s)))).answer ≡ Ok tt
+        → OpenedState s (unless a x (opened_as (opened (policy_of s) (origin_of s))))
+    go (Ok _) e f = record {
       card = (passing_law (policy_checks s)).1 (passed_parts (policy_checks s) _ ((passing_law (opening_checks s x)).0 e)).0;
       state = refl;
     }
-    go (C.Refused r) e f = absurd (not_accepted r (ap reply f))
+    go (Err r) e f = absurd (not_accepted r (ap reply f))
 
 fresh_state : (s : List ℕ) (p : Policy) → length s ≤ 517 → Opened s p (opened p (origin_of s))
 unfolding opened
@@ -88,7 +87,7 @@ fresh_state s p h = record {
   holds = (holds_law s h (origin_of s)).1 refl;
 }
 
-opened_law : (s : List ℕ) (x : State) → (open_state s x).answer ≡ Done → Opened s (policy_of s) (open_state s x).state
+opened_law : (s : List ℕ) (x : State) → (open_state s x).answer ≡ Ok tt → Opened s (policy_of s) (open_state s x).state
 opened_law s x d = rw (opens s x d).state (fresh_state s (policy_of s) (short s (opens s x d).card))
 
 -- ---- demand 2
@@ -98,9 +97,9 @@ module _ (s : List ℕ) (x : State) (b : List ℕ) where
   abbrev next : Knowledge
   next = stored (sizes_of s) x.known (meaning_of b)
 
-  pub record Left (o : Outcome) : Type 0 where
+  pub record Left (o : Outcome ℕ) : Type 0 where
     pub state : o.state ≡ over (policy_of s) x.origin next
-    pub answer : o.answer ≡ Received (standing (verdicts_of (policy_of s) next))
+    pub answer : o.answer ≡ Ok (standing (verdicts_of (policy_of s) next))
     pub tested : admits (sizes_of s) x.known (meaning_of b) ≡ true
 
   pub left : Taken (receive s x b).answer → Left (receive s x b)
@@ -114,8 +113,8 @@ module _ (s : List ℕ) (x : State) (b : List ℕ) where
           last (pass e no_more) = e
 
       go : (a : Checked) → first_failed (take_checks s x b) ≡ a → Taken (unless a x (settled (policy_of s) x (meaning_of b))).answer → Left (unless a x (settled (policy_of s) x (meaning_of b)))
-      go (C.Refused r) e t = absurd t
-      go C.Accepted e t = record {
+      go (Err r) e t = absurd t
+      go (Ok _) e t = record {
         state = refl;
         answer = refl;
         tested = tested (passed_parts (record_checks s x) _ ((passing_law (take_checks s x b)).0 e)).1;
@@ -152,10 +151,9 @@ module _ (s : List ℕ) (x : State) (b : List ℕ) where
       still i t n (inr y) = y
 
 -- a call's answer is a refusal where its reply is
-pub refused : (a : Answer) (r : Refusal) → (a ≡ Refused r) ↔ (reply a ≡ C.Refused r)
-refused Done r = (λ e. ap reply e, λ e. absurd (not_accepted r (sym e)))
-refused (Received n) r = (λ e. ap reply e, λ e. absurd (not_accepted r (sym e)))
-refused (Refused q) r = (λ e. ap reply e, λ e. ap Refused (same_refusal q r e))
+pub refused : (a : Received) (r : Refusal) → (a ≡ Err r) ↔ (reply a ≡ Err r)
+refused (Ok n) r = (λ e. ap reply e, λ e. absurd (not_accepted r (sym e)))
+refused (Err q) r = (λ e. ap reply e, λ e. ap Err (same_refusal q r e))
 
 pub demand_2 : Demand2
 demand_2 = record {
@@ -166,7 +164,7 @@ demand_2 = record {
       rw l.state (gained s x b r.0 r.1 l.tested);
   total = λ s x b t.
       let l = left s x b t in
-      l.answer ∙ ap (λ (y : State). Received (standing y.verdicts)) (sym l.state);
+      l.answer ∙ ap (λ (y : State). Ok (standing y.verdicts)) (sym l.state);
   origin = kept_origin;
   conflict = conflict;
   opening = λ s x d. opened_law s x d;
@@ -174,11 +172,11 @@ demand_2 = record {
 }
   where
     conflict : (s : List ℕ) (x : State) (b : List ℕ) → Passed s x → WellFormed (sizes_of s) b
-        → ((receive s x b).answer ≡ Refused Conflict) ↔ (SomeTrace (sizes_of s) x.known (meaning_of b) → ⊥)
+        → ((receive s x b).answer ≡ Err Conflict) ↔ (SomeTrace (sizes_of s) x.known (meaning_of b) → ⊥)
     conflict s x b ok w =
         let nine = (demand_1.take s x b).nine 0 in (
           λ e. (nine.0 (record { refusal = Conflict; is = (refused _ Conflict).0 e; number = refl; place = refl })).3,
-          λ n. let r = nine.1 (refl, ok, w, n) in (refused _ Conflict).1 (r.is ∙ ap C.Refused (the_refusal r)),
+          λ n. let r = nine.1 (refl, ok, w, n) in (refused _ Conflict).1 (r.is ∙ ap Err (the_refusal r)),
         )
 
 -- ---- demand 3
@@ -190,7 +188,7 @@ after_opened s x e cs = ap (λ (y : State). run_calls s y cs) e
 accepted_opened : (s : List ℕ) (x : State) → (open_state s x).state ≡ opened (policy_of s) (origin_of s) → (cs : List Call) → accepted s x cs ≡ accepted_from s (opened (policy_of s) (origin_of s)) cs
 accepted_opened s x e cs = ap (λ (y : State). accepted_from s y cs) e
 
-module _ (s : List ℕ) (card : policy_answer s ≡ C.Accepted) where
+module _ (s : List ℕ) (card : policy_answer s ≡ Ok tt) where
   abbrev proper : Proper (policy_of s)
   proper = policy_proper s card
 

@@ -1,5 +1,5 @@
 -- Laws of the definitions in specs/Reported. Assumes nothing.
-use Rattle.std.specs.Prelude.{ℕ, zero, suc, ◌≤◌, ◌<◌, ◌≡◌, refl, ◌⊎◌, eqb}
+use Rattle.std.specs.Prelude.{ℕ, zero, suc, ◌≤◌, ◌<◌, ◌≡◌, refl, ◌⊎◌, eqb, Ok}
 use Rattle.std.proofs.Common.{arith, sym, ap, subst, ◌∙◌, inl, inr, eqb-true, eq-eqb, ne_eqb}
 use Rattle.std.proofs.Math.Decide.{ℕ_discrete}
 use mathlib.Core.List.{List, [], ◌∷◌, Memᴰ}
@@ -17,7 +17,6 @@ use Rattle.valuation.specs.Sheets.{valuation_of, verdicts_of}
 use Rattle.reach.specs.Reach.{reach_deep, reach}
 use Rattle.completeness.specs.Complete.{Every}
 use Rattle.completeness.specs.Reports.{Observed, Reports}
-use Rattle.monitor.specs.declared.Answer.TheVariants.{Done}
 use Rattle.origin.specs.Origin.{origin_of, opened_under}
 use Rattle.monitor.specs.State.{State, sizes_fit, opened, open_state, receive, run_calls, accepted_from, accepted}
 use Rattle.monitor.specs.Demands.{sizes_of, shown}
@@ -105,7 +104,7 @@ module _ (n : ℕ) (inside : n < 4) where
         };
   }
 
-pub reported_shifts : (y : State) → (open_state U y).answer ≡ Done → ReportedShifts y
+pub reported_shifts : (y : State) → (open_state U y).answer ≡ Ok tt → ReportedShifts y
 unfolding digit below expanded bit reading line_length fields_at keeps_kind good_line meaning formula_of subformula_of subformula_at heading_checks offset line_checks lines_checks lines_up_to subformulas_of rule_lines rules_up_to closing_checks policy_checks policy_answer policy_of component_of minute_of number_of named_of packed_of length_of fields_of good_alive good_observation all_written good_fields message_answer event_in meaning_of noted valued number is_point is_none sound fresh stored free admits valuation_of verdicts_of sizes_fit opened opened_under receive follow steady level full word_sound words_agree reach_deep reach
 reported_shifts y d =
     let u : (open_state U y).state ≡ opened (policy_of U) (origin_of U) = (opens U y d).state in

@@ -1,11 +1,10 @@
 -- Takes under an accepted card, one and a list of them: each keeps the state up, and is accepted exactly when a trace admits it together with
 -- what was accepted before.
-use Rattle.std.specs.Prelude.{ℕ, ◌<◌, ◌≡◌, refl, ◌⊎◌, ◌↔◌, ◌≢◌}
+use Rattle.std.specs.Prelude.{ℕ, ◌<◌, ◌≡◌, refl, ◌⊎◌, ◌↔◌, ◌≢◌, Err, Ok}
 use Rattle.std.proofs.Common.{sym, ◌∙◌, inl, inr}
 use Rattle.std.proofs.Math.Bool.{true}
 use mathlib.Core.List.{List, [], ◌∷◌, ◌++◌, Memᴰ}
-use Rattle.refusal.specs.declared.Answer.{Answer as Checked}
-use Rattle.refusal.specs.declared.Answer.TheVariants as C
+use Rattle.refusal.specs.Checks.{Checked}
 use Rattle.refusal.specs.declared.Refusal.TheVariants.{Conflict}
 use Rattle.refusal.specs.Checks.{check, first_failed, Passed as AllPassed, none, pass}
 use Rattle.refusal.proofs.Laws.{passing_law, passed_both, passed_parts, not_accepted}
@@ -13,13 +12,13 @@ use Rattle.policy.specs.Format.{answer_of as policy_answer, policy_of}
 use Rattle.policy.specs.Proper.{Proper}
 use Rattle.policy.proofs.Laws.{short}
 use Rattle.message.specs.Format.{message_checks, answer_of as message_answer}
-use Rattle.message.specs.Fixes.{Message, Fits, WellFormed, meaning_of}
+use Rattle.message.specs.Fixes.{Fits, WellFormed, meaning_of}
+use Rattle.message.specs.declared.Message.{Message}
 use Rattle.knowledge.specs.Trace.{Trace, Admits, AdmitsAll}
 use Rattle.knowledge.specs.Knowledge.{Sound, admits}
 use Rattle.knowledge.specs.Laws.{Limits}
 use Rattle.knowledge.proofs.Conflict.{admits_law}
-use Rattle.monitor.specs.declared.Answer.{Answer}
-use Rattle.monitor.specs.declared.Answer.TheVariants.{Done, Received, Refused}
+use Rattle.monitor.specs.State.{Received}
 use Rattle.origin.specs.Origin.{origin_of}
 use Rattle.origin.proofs.Origin.{origin_long}
 use Rattle.monitor.specs.State.{State, Outcome, unless, Sized, opened, settled, slip_checks, take_message, receive, Call, Receive, step, run_calls, Taken, took, accepted_by, accepted_from, Offers, by_take, Offered}
@@ -39,13 +38,13 @@ pub run_append : (s : List ℕ) (cs ds : List Call) (x : State) → run_calls s 
 run_append s [] ds x = refl
 run_append s (c ∷ cs) ds x = run_append s cs ds (step s x c).state
 
-module _ (s : List ℕ) (passed : policy_answer s ≡ C.Accepted) (proper : Proper (policy_of s))
+module _ (s : List ℕ) (passed : policy_answer s ≡ Ok tt) (proper : Proper (policy_of s))
     (ranged : (b : List ℕ) → WellFormed (sizes_of s) b → Fits (sizes_of s) (meaning_of b)) where
   limits : Limits (sizes_of s)
   limits = record { propositions_most = proper.propositions.high; minutes_most = proper.minutes.high }
 
   -- a message that passes its checks is well_formed, and nothing known contradicts it
-  passed_slip : (x : State) (b : List ℕ) → (first_failed (slip_checks (policy_of s) x b) ≡ C.Accepted)
+  passed_slip : (x : State) (b : List ℕ) → (first_failed (slip_checks (policy_of s) x b) ≡ Ok tt)
       ↔ (WellFormed (sizes_of s) b × (admits (sizes_of s) x.known (meaning_of b) ≡ true))
   unfolding message_answer
   passed_slip x b = (there, back)
@@ -53,12 +52,12 @@ module _ (s : List ℕ) (passed : policy_answer s ≡ C.Accepted) (proper : Prop
       last : AllPassed (check (admits (sizes_of s) x.known (meaning_of b)) Conflict ∷ []) → admits (sizes_of s) x.known (meaning_of b) ≡ true
       last (pass e none) = e
 
-      there : first_failed (slip_checks (policy_of s) x b) ≡ C.Accepted → WellFormed (sizes_of s) b × (admits (sizes_of s) x.known (meaning_of b) ≡ true)
+      there : first_failed (slip_checks (policy_of s) x b) ≡ Ok tt → WellFormed (sizes_of s) b × (admits (sizes_of s) x.known (meaning_of b) ≡ true)
       there e =
           let q = passed_parts (message_checks (sizes_of s) b) _ ((passing_law (slip_checks (policy_of s) x b)).0 e) in
           ((passing_law (message_checks (sizes_of s) b)).1 q.0, last q.1)
 
-      back : WellFormed (sizes_of s) b × (admits (sizes_of s) x.known (meaning_of b) ≡ true) → first_failed (slip_checks (policy_of s) x b) ≡ C.Accepted
+      back : WellFormed (sizes_of s) b × (admits (sizes_of s) x.known (meaning_of b) ≡ true) → first_failed (slip_checks (policy_of s) x b) ≡ Ok tt
       back q = (passing_law (slip_checks (policy_of s) x b)).1 (passed_both (message_checks (sizes_of s) b) _ ((passing_law (message_checks (sizes_of s) b)).0 q.0) (pass q.1 none))
 
   -- ---- what each kind of call keeps up, and what it accepts
@@ -67,7 +66,7 @@ module _ (s : List ℕ) (passed : policy_answer s ≡ C.Accepted) (proper : Prop
       → KeptUp (policy_of s) (origin_of s) (receive s x b).state (λ y. Q y ⊎ Memᴰ y (took (receive s x b).answer b))
   receive_up x Q up b = rw (plain_take s x passed up.sized up.origin up.exact.sound b) (go (first_failed (slip_checks (policy_of s) x b)) refl)
     where
-      out : Checked → Outcome
+      out : Checked → Outcome ℕ
       out a = unless a x (settled (policy_of s) x (meaning_of b))
 
       single : (y : Message) → Q y ⊎ (y ≡ meaning_of b) → Q y ⊎ Memᴰ y (meaning_of b ∷ [])
@@ -79,10 +78,10 @@ module _ (s : List ℕ) (passed : policy_answer s ≡ C.Accepted) (proper : Prop
       one y (inr h) = inr (mathlib.Core.List.Memᴰ.eq_of_singleton h)
 
       go : (a : Checked) → first_failed (slip_checks (policy_of s) x b) ≡ a → KeptUp (policy_of s) (origin_of s) (out a).state (λ y. Q y ⊎ Memᴰ y (took (out a).answer b))
-      go C.Accepted e =
+      go (Ok _) e =
           let q = (passed_slip x b).0 e in
           relabel (policy_of s) (origin_of s) single one (next_up (policy_of s) (origin_of s) proper x Q up (meaning_of b) (ranged b q.0) q.1)
-      go (C.Refused r) e = relabel (policy_of s) (origin_of s) (λ y q. inl q) (none_more Q) up
+      go (Err r) e = relabel (policy_of s) (origin_of s) (λ y q. inl q) (none_more Q) up
 
   pub step_up : (x : State) (Q : Message → Type 0) → KeptUp (policy_of s) (origin_of s) x Q → (c : Call)
       → KeptUp (policy_of s) (origin_of s) (step s x c).state (λ y. Q y ⊎ Memᴰ y (accepted_by s x c))
@@ -124,8 +123,8 @@ module _ (s : List ℕ) (passed : policy_answer s ≡ C.Accepted) (proper : Prop
 
       go : (a : Checked) → first_failed (slip_checks (policy_of s) x b) ≡ a
           → Taken (unless a x (settled (policy_of s) x (meaning_of b))).answer ↔ (WellFormed (sizes_of s) b × SomeTrace (sizes_of s) x.known (meaning_of b))
-      go C.Accepted e = let q = (passed_slip x b).0 e in (λ u. (q.0, (law q.0).0 q.1), λ h. tt)
-      go (C.Refused r) e = (λ u. absurd u, λ h. absurd (not_accepted r (sym e ∙ (passed_slip x b).1 (h.0, (law h.0).1 h.1))))
+      go (Ok _) e = let q = (passed_slip x b).0 e in (λ u. (q.0, (law q.0).0 q.1), λ h. tt)
+      go (Err r) e = (λ u. absurd u, λ h. absurd (not_accepted r (sym e ∙ (passed_slip x b).1 (h.0, (law h.0).1 h.1))))
 
   pub accept_law : (x : State) (Q : Message → Type 0) → KeptUp (policy_of s) (origin_of s) x Q → (b : List ℕ)
       → Taken (receive s x b).answer
@@ -176,18 +175,17 @@ module _ (s : List ℕ) (passed : policy_answer s ≡ C.Accepted) (proper : Prop
       → WellFormed (sizes_of s) b × (meaning_of b ≡ y)
   took_sent x b f y = go (receive s x b).answer f
     where
-      go : (a : Answer) → (Taken a → WellFormed (sizes_of s) b) → Memᴰ y (took a b) → WellFormed (sizes_of s) b × (meaning_of b ≡ y)
-      go Done f h = absurd (mathlib.Core.List.Memᴰ.not-nil h)
-      go (Received n) f h = (f tt, sym (mathlib.Core.List.Memᴰ.eq_of_singleton h))
-      go (Refused r) f h = absurd (mathlib.Core.List.Memᴰ.not-nil h)
+      go : (a : Received) → (Taken a → WellFormed (sizes_of s) b) → Memᴰ y (took a b) → WellFormed (sizes_of s) b × (meaning_of b ≡ y)
+      go (Ok n) f h = (f tt, sym (mathlib.Core.List.Memᴰ.eq_of_singleton h))
+      go (Err r) f h = absurd (mathlib.Core.List.Memᴰ.not-nil h)
 
   -- a take that is accepted took its message
   took_it : (x : State) (b : List ℕ) → Taken (take_message (policy_of s) x b).answer → Memᴰ (meaning_of b) (took (take_message (policy_of s) x b).answer b)
   took_it x b = go (first_failed (slip_checks (policy_of s) x b))
     where
       go : (a : Checked) → Taken (unless a x (settled (policy_of s) x (meaning_of b))).answer → Memᴰ (meaning_of b) (took (unless a x (settled (policy_of s) x (meaning_of b))).answer b)
-      go C.Accepted u = mathlib.Core.List.Memᴰ.head refl
-      go (C.Refused r) u = absurd u
+      go (Ok _) u = mathlib.Core.List.Memᴰ.head refl
+      go (Err r) u = absurd u
 
   module _ (x : State) (Q : Message → Type 0) (up : KeptUp (policy_of s) (origin_of s) x Q) where
     -- for each kind of call: what it accepted, it was offered, well_formed

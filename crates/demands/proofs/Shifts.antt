@@ -1,15 +1,15 @@
 -- Complete shifts leave no blanks (02, request 8), proved: of a record in the crates reach and completeness, and from there of the sheet and of demand 3's
 -- lists. Assumes nothing.
-use Rattle.std.specs.Prelude.{ℕ, ◌+◌, ◌<◌, ◌≡◌, refl, ◌≢◌}
+use Rattle.std.specs.Prelude.{ℕ, ◌+◌, ◌<◌, ◌≡◌, refl, ◌≢◌, Ok}
 use Rattle.std.proofs.Common.{arith, sym, ap, subst, ◌∙◌, inr}
 use mathlib.Core.List.{List, Memᴰ}
 use Rattle.kleene.specs.Truth.{Truth, unknown, true3, false3, code_of}
-use Rattle.refusal.specs.declared.Answer.TheVariants as C
 use Rattle.policy.specs.declared.Policy.{Policy}
 use Rattle.policy.specs.Format.{answer_of as policy_answer, policy_of}
 use Rattle.policy.proofs.Laws.{accepted as policy_proper}
 use Rattle.policy.proofs.Answered.{causes as policy_causes}
-use Rattle.message.specs.Fixes.{Message, WellFormed, meaning_of}
+use Rattle.message.specs.Fixes.{WellFormed, meaning_of}
+use Rattle.message.specs.declared.Message.{Message}
 use Rattle.knowledge.specs.Trace.{Trace, Admits}
 use Rattle.knowledge.specs.Knowledge.{Knowledge, KnownPoint}
 use Rattle.knowledge.proofs.Laws.{point_law}
@@ -25,7 +25,6 @@ use Rattle.completeness.specs.Reports.{Reports}
 use Rattle.completeness.specs.Told.{Told}
 use Rattle.completeness.proofs.Told.{all_told}
 use Rattle.origin.specs.Origin.{Origin, origin_of}
-use Rattle.monitor.specs.declared.Answer.TheVariants.{Done}
 use Rattle.monitor.specs.State.{State, open_state, receive, Call, run_calls, after, Taken, accepted, Offered, Entry}
 use Rattle.monitor.specs.Demands.{sizes_of, rule_line, shown, Sheets, Sends, after_entries, accepted_in, takes_of, FullSheet, CompleteShifts}
 use Rattle.demands.proofs.Invariant.{KeptUp}
@@ -38,7 +37,7 @@ use Rattle.demands.proofs.Points.{up}
 
 -- ---- a record
 
-of_named : (s : List ℕ) → policy_answer s ≡ C.Accepted → (k : Knowledge) → Complete (sizes_of s) (Named (policy_of s)) k → NoBlanks (policy_of s) k
+of_named : (s : List ℕ) → policy_answer s ≡ Ok tt → (k : Knowledge) → Complete (sizes_of s) (Named (policy_of s)) k → NoBlanks (policy_of s) k
 of_named s e k c = no_blanks (policy_of s) (policy_proper s e) k c
 
 -- ---- its sheet
@@ -80,7 +79,7 @@ whole : (p : Policy) (o : Origin) (x : State) (Q : Message → Type 0) → KeptU
     → Reports p.sizes P w Q → AllTold p.sizes P w x.known
 whole p o x Q up P w r = all_told p.sizes P w Q x.known up.exact.sound (told p o x Q up) r
 
-module _ (s : List ℕ) (x : State) (d : (open_state s x).answer ≡ Done) where
+module _ (s : List ℕ) (x : State) (d : (open_state s x).answer ≡ Ok tt) where
   reported : (cs : List Call) (P : ℕ → Type 0) (w : Trace (sizes_of s)) → Reports (sizes_of s) P w (λ m. Memᴰ m (accepted s x cs))
       → AllTold (sizes_of s) P w (after s x cs).known
   reported cs P w r = whole (policy_of s) (origin_of s) (after s x cs) _ (up s x d cs) P w r

@@ -1,5 +1,5 @@
 -- Laws of the definitions in specs/Small. Assumes nothing.
-use Rattle.std.specs.Prelude.{ℕ, ◌≡◌, refl, List, [], ◌∷◌, ◌++◌, map, length}
+use Rattle.std.specs.Prelude.{ℕ, ◌≡◌, refl, List, [], ◌∷◌, ◌++◌, map, length, Ok}
 use Rattle.std.proofs.Common.{sym, ap, ◌∙◌}
 use Rattle.bits.specs.Digits.{digit, below, expanded}
 use Rattle.bits.specs.Bits.{bit}
@@ -9,7 +9,6 @@ use Rattle.message.specs.Format.{component_of, minute_of, number_of, named_of, p
 use Rattle.message.specs.Fixes.{meaning_of}
 use Rattle.knowledge.specs.Knowledge.{follow, steady, level, full, word_sound, words_agree, noted, valued, number, is_point, is_none, sound, fresh, stored, free, admits}
 use Rattle.valuation.specs.Sheets.{valuation_of, verdicts_of, standing}
-use Rattle.monitor.specs.declared.Answer.TheVariants.{Done}
 use Rattle.origin.specs.Origin.{Origin, origin_of, opened_under}
 use Rattle.monitor.specs.State.{State, lent, sizes_fit, opened, open_state, receive, PacketOutcome, receive_packet, Receive, run_calls, after}
 use Rattle.demands.proofs.Proved.{opens}
@@ -17,17 +16,17 @@ use Rattle.demands.specs.Small.{A, A', B, D, K, LostSlips, N, SixKinds, SmallPac
 
 -- what is assumed of x and y below is so for any buffers of the cards' sizes: both openings are done
 pub opens_sized : (n f v d : List ℕ) (o : Origin) → length n ≡ 5 → length f ≡ 8 → length v ≡ 12 → length d ≡ 4 → length o.bytes ≡ 517
-    → ((open_state K (lent n f v d o)).answer ≡ Done) × ((open_state U (lent n f v d o)).answer ≡ Done)
+    → ((open_state K (lent n f v d o)).answer ≡ Ok tt) × ((open_state U (lent n f v d o)).answer ≡ Ok tt)
 unfolding open_state line_length fields_at keeps_kind good_line meaning formula_of subformula_of subformula_at heading_checks offset line_checks lines_checks lines_up_to subformulas_of rule_lines rules_up_to closing_checks policy_checks policy_answer policy_of sizes_fit
 opens_sized n f v d o a b c e g = (rw (a, b, c, e, g) refl, rw (a, b, c, e, g) refl)
 
 pub opens_lost : (n f v d : List ℕ) (o : Origin) → length n ≡ 5 → length f ≡ 8 → length v ≡ 4 → length d ≡ 4 → length o.bytes ≡ 517
-    → (open_state T (lent n f v d o)).answer ≡ Done
+    → (open_state T (lent n f v d o)).answer ≡ Ok tt
 unfolding open_state line_length fields_at keeps_kind good_line meaning formula_of subformula_of subformula_at heading_checks offset line_checks lines_checks lines_up_to subformulas_of rule_lines rules_up_to closing_checks policy_checks policy_answer policy_of sizes_fit
 opens_lost n f v d o a b c e g = rw (a, b, c, e, g) refl
 
 pub opens_six : (n f v d : List ℕ) (o : Origin) → length n ≡ 5 → length f ≡ 8 → length v ≡ 32 → length d ≡ 24 → length o.bytes ≡ 517
-    → (open_state N (lent n f v d o)).answer ≡ Done
+    → (open_state N (lent n f v d o)).answer ≡ Ok tt
 unfolding open_state line_length fields_at keeps_kind good_line meaning formula_of subformula_of subformula_at heading_checks offset line_checks lines_checks lines_up_to subformulas_of rule_lines rules_up_to closing_checks policy_checks policy_answer policy_of sizes_fit
 opens_six n f v d o a b c e g = rw (a, b, c, e, g) refl
 
@@ -42,7 +41,7 @@ module _ (s : List ℕ) (x : State) (e : (open_state s x).state ≡ opened (poli
   reply_from : (bs : List (List ℕ)) (b : List ℕ) → reply s x bs b ≡ (receive s (run_calls s (opened (policy_of s) (origin_of s)) (map Receive bs)) b).answer
   reply_from bs b = ap (λ (y : State). (receive s (run_calls s y (map Receive bs)) b).answer) e
 
-pub small_shift : (x y : State) → (open_state K x).answer ≡ Done → (open_state U y).answer ≡ Done → SmallShift x y
+pub small_shift : (x y : State) → (open_state K x).answer ≡ Ok tt → (open_state U y).answer ≡ Ok tt → SmallShift x y
 unfolding digit below expanded bit since until deep reading line_length fields_at keeps_kind good_line meaning formula_of subformula_of subformula_at heading_checks offset line_checks lines_checks lines_up_to subformulas_of rule_lines rules_up_to closing_checks policy_checks policy_answer policy_of component_of minute_of number_of named_of packed_of length_of fields_of good_alive good_observation all_written good_fields message_answer event_in meaning_of noted valued number is_point is_none sound fresh stored free admits valuation_of verdicts_of standing sizes_fit opened opened_under receive follow steady level full word_sound words_agree
 small_shift x y d e =
     let k : (open_state K x).state ≡ opened (policy_of K) (origin_of K) = (opens K x d).state in
@@ -67,7 +66,7 @@ small_shift x y d e =
       until_broken = sheet_from U y u (false_at_2 ∷ alive_at_4 ∷ []);
     }
 
-pub lost_slips : (x : State) → (open_state T x).answer ≡ Done → LostSlips x
+pub lost_slips : (x : State) → (open_state T x).answer ≡ Ok tt → LostSlips x
 unfolding digit below expanded bit since until deep reading line_length fields_at keeps_kind good_line meaning formula_of subformula_of subformula_at heading_checks offset line_checks lines_checks lines_up_to subformulas_of rule_lines rules_up_to closing_checks policy_checks policy_answer policy_of component_of minute_of number_of named_of packed_of length_of fields_of good_alive good_observation all_written good_fields message_answer event_in meaning_of noted valued number is_point is_none sound fresh stored free admits valuation_of verdicts_of standing sizes_fit opened opened_under receive follow steady level full word_sound words_agree
 lost_slips x d =
     let k : (open_state T x).state ≡ opened (policy_of T) (origin_of T) = (opens T x d).state in
@@ -79,7 +78,7 @@ lost_slips x d =
       then_known = sheet_from T x k (one_short ∷ (0x12 ∷ 0x01 ∷ 0x00 ∷ []) ∷ []);
     }
 
-pub six_kinds : (x : State) → (open_state N x).answer ≡ Done → SixKinds x
+pub six_kinds : (x : State) → (open_state N x).answer ≡ Ok tt → SixKinds x
 unfolding digit below expanded bit since until deep reading line_length fields_at keeps_kind good_line meaning formula_of subformula_of subformula_at heading_checks offset line_checks lines_checks lines_up_to subformulas_of rule_lines rules_up_to closing_checks policy_checks policy_answer policy_of component_of minute_of number_of named_of packed_of length_of fields_of good_alive good_observation all_written good_fields message_answer event_in meaning_of noted valued number is_point is_none sound fresh stored free admits valuation_of verdicts_of standing sizes_fit opened opened_under receive follow steady level full word_sound words_agree
 six_kinds x d =
     let k : (open_state N x).state ≡ opened (policy_of N) (origin_of N) = (opens N x d).state in
@@ -102,7 +101,7 @@ module _ (x : State) (e : (open_state K x).state ≡ opened (policy_of K) (origi
   left_from : (b : List ℕ) → (frame x b).state ≡ (receive_packet K (opened (policy_of K) (origin_of K)) b).state
   left_from b = ap (λ (o : PacketOutcome). o.state) (frame_from b)
 
-pub small_packets : (x : State) → (open_state K x).answer ≡ Done → SmallPackets x
+pub small_packets : (x : State) → (open_state K x).answer ≡ Ok tt → SmallPackets x
 unfolding digit below expanded bit since until deep reading line_length fields_at keeps_kind good_line meaning formula_of subformula_of subformula_at heading_checks offset line_checks lines_checks lines_up_to subformulas_of rule_lines rules_up_to closing_checks policy_checks policy_answer policy_of component_of minute_of number_of named_of packed_of length_of fields_of good_alive good_observation all_written good_fields message_answer event_in meaning_of noted valued number is_point is_none sound fresh stored free admits valuation_of verdicts_of standing sizes_fit opened opened_under receive follow steady level full word_sound words_agree receive_packet messages_of used_of
 small_packets x d =
     let k : (open_state K x).state ≡ opened (policy_of K) (origin_of K) = (opens K x d).state in
@@ -143,5 +142,5 @@ opened_cards = record {
   unsound_own = refl;
 }
 
-pub two_cards : (x : State) → (open_state K x).answer ≡ Done → TwoCards (open_state K x).state
+pub two_cards : (x : State) → (open_state K x).answer ≡ Ok tt → TwoCards (open_state K x).state
 two_cards x d = rw (opens K x d).state opened_cards

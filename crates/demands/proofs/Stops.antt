@@ -1,13 +1,12 @@
 -- Why a packet stops: the checks 1 to 6 and 12 refuse it, as they refuse every take from this state; or it comes to a message that is refused, from a state
 -- that passes those checks still, so with 7, 8 or 9 by that message's own cause; or all of it is taken. A message of a packet is as long as its fields
 -- say, or it is the last one and ends early: so 7 is always at the packet's end.
-use Rattle.std.specs.Prelude.{ℕ, ◌+◌, ◌≤◌, ◌<◌, ◌≡◌, refl, ◌⊎◌, ◌↔◌, List, [], ◌∷◌, ◌++◌, map, length, take}
+use Rattle.std.specs.Prelude.{ℕ, ◌+◌, ◌≤◌, ◌<◌, ◌≡◌, refl, ◌⊎◌, ◌↔◌, List, [], ◌∷◌, ◌++◌, map, length, take, Err, Ok, Option, None, Some}
 use Rattle.std.proofs.Common.{arith, subst, ◌∙◌, inl, inr, append-nil, length-append}
 use Rattle.std.proofs.Math.Path.{sym, ap}
 use Rattle.std.proofs.lemmas.List.{length-map}
 use Rattle.refusal.specs.declared.Refusal.{Refusal}
-use Rattle.refusal.specs.declared.Answer.{Answer as Checked}
-use Rattle.refusal.specs.declared.Answer.TheVariants as C
+use Rattle.refusal.specs.Checks.{Checked, reply}
 use Rattle.refusal.specs.Numbers.{refusal_number, refusal_place, refusal_of, packet_place}
 use Rattle.refusal.proofs.Numbers.{first_place}
 use Rattle.refusal.specs.Checks.{Check, first_failed, and_then, Passed as AllPassed, Refuses, RefusedWith}
@@ -19,11 +18,9 @@ use Rattle.message.specs.Packet.{Packed, no_more, whole, cut}
 use Rattle.message.proofs.First.{packed, messages_none, messages_some}
 use Rattle.message.specs.Fixes.{meaning_of}
 use Rattle.message.specs.Proper.{Cut as CutMessage, early, extra}
-use Rattle.monitor.specs.declared.Answer.TheVariants.{Refused}
-use Rattle.monitor.specs.declared.Stop.{Stop}
-use Rattle.monitor.specs.declared.Stop.TheVariants as P
+use Rattle.monitor.specs.declared.Stopped.{Stopped}
 use Rattle.monitor.specs.State.{State, unless, settled, slip_checks, record_checks, take_checks, receive, PacketOutcome, stopped, refused_at, take_each, receive_packet, Receive, run_calls}
-use Rattle.monitor.specs.Demands.{Sheets, reply, Passed, StoppedWith, EachTaken, bytes_in, ComesTo, PacketCauses}
+use Rattle.monitor.specs.Demands.{Sheets, Passed, StoppedWith, EachTaken, bytes_in, ComesTo, PacketCauses}
 use Rattle.monitor.proofs.Leaves.{stops, takes_packet, refuses_packet}
 use Rattle.demands.proofs.Causes.{via, reply_unless, slip_number, passed_record, record_number}
 use Rattle.demands.proofs.Proved.{demand_1, refused, demand_2}
@@ -55,32 +52,32 @@ module _ (s : List ℕ) where
 
   -- ---- the checks 1 to 6 and 12
 
-  first_law : (x : State) → (first_failed (firsts x) ≡ C.Accepted) ↔ Passed s x
+  first_law : (x : State) → (first_failed (firsts x) ≡ Ok tt) ↔ Passed s x
   first_law x = via (passing_law (firsts x)) (passed_record s (policy_causes s) x)
 
-  first_number : (x : State) (r : Refusal) → first_failed (firsts x) ≡ C.Refused r → ((1 ≤ refusal_number r) × (refusal_number r ≤ 6)) ⊎ (refusal_number r ≡ 12)
+  first_number : (x : State) (r : Refusal) → first_failed (firsts x) ≡ Err r → ((1 ≤ refusal_number r) × (refusal_number r ≤ 6)) ⊎ (refusal_number r ≡ 12)
   first_number x r e = record_number s (policy_causes s) x r ((refusal_law (firsts x) r).0 e)
 
   -- they refuse every take
-  pub refuses_all : (x : State) (r : Refusal) → first_failed (firsts x) ≡ C.Refused r → (m : List ℕ) → (receive s x m).answer ≡ Refused r
+  pub refuses_all : (x : State) (r : Refusal) → first_failed (firsts x) ≡ Err r → (m : List ℕ) → (receive s x m).answer ≡ Err r
   unfolding receive
   refuses_all x r e m =
       ap (λ (c : Checked). (unless c x (settled (policy_of s) x (meaning_of m))).answer)
       (in_order (firsts x) (slip_checks (policy_of s) x m) ∙ ap (λ (a : Checked). and_then a (first_failed (slip_checks (policy_of s) x m))) e)
 
   -- and where they pass, a take is refused with 7 to 9
-  pub later_number : (x : State) (m : List ℕ) (r : Refusal) → Passed s x → (receive s x m).answer ≡ Refused r → (7 ≤ refusal_number r) × (refusal_number r ≤ 9)
+  pub later_number : (x : State) (m : List ℕ) (r : Refusal) → Passed s x → (receive s x m).answer ≡ Err r → (7 ≤ refusal_number r) × (refusal_number r ≤ 9)
   unfolding receive
   later_number x m r ok e = go (refused_where (firsts x) (slip_checks (policy_of s) x m) r ((refusal_law (take_checks s x m) r).0 failed))
     where
-      failed : first_failed (take_checks s x m) ≡ C.Refused r
+      failed : first_failed (take_checks s x m) ≡ Err r
       failed = sym (reply_unless (first_failed (take_checks s x m)) x (settled (policy_of s) x (meaning_of m)) refl) ∙ ap reply e
 
       go : Refuses (firsts x) r ⊎ (AllPassed (firsts x) × Refuses (slip_checks (policy_of s) x m) r) → (7 ≤ refusal_number r) × (refusal_number r ≤ 9)
       go (inl q) = absurd (not_accepted r (sym ((refusal_law (firsts x) r).1 q) ∙ (first_law x).1 ok))
       go (inr q) = slip_number s x m r q.1
 
-  none_taken : (x : State) (r : Refusal) → first_failed (firsts x) ≡ C.Refused r → (ms : List (List ℕ)) → EachTaken s x ms → ms ≡ []
+  none_taken : (x : State) (r : Refusal) → first_failed (firsts x) ≡ Err r → (ms : List (List ℕ)) → EachTaken s x ms → ms ≡ []
   none_taken x r e [] t = refl
   none_taken x r e (m ∷ ms) t = absurd (rw (refuses_all x r e m) at t.0)
 
@@ -98,10 +95,10 @@ module _ (s : List ℕ) where
     packet_plain h = go (first_failed (firsts x)) refl
       where
         go : (a : Checked) → first_failed (firsts x) ≡ a → receive_packet s x b ≡ take_each s x 0 0 (messages_of b)
-        go C.Accepted e = takes_packet s x b e
-        go (C.Refused r) e =
+        go (Ok _) e = takes_packet s x b e
+        go (Err r) e =
             let m = take (used_of b) b in
-            let f : (receive s x m).answer ≡ Refused r = refuses_all x r e m in
+            let f : (receive s x m).answer ≡ Err r = refuses_all x r e m in
             refuses_packet s x b r e
             ∙ ap (stopped 0 (refused_at 0 r)) (sym ((demand_1.take s x m).unwritten r f))
             ∙ sym (ap (take_each s x 0 0) (messages_some b h) ∙ stops s x m (messages_of (rest_of b)) 0 0 r f)
@@ -115,34 +112,34 @@ module _ (s : List ℕ) where
     packet_settled = go (first_failed (firsts x)) refl
       where
         go : (a : Checked) → first_failed (firsts x) ≡ a → Settled (receive_packet s x b)
-        go C.Accepted e = rw (takes_packet s x b e) (record {
+        go (Ok _) e = rw (takes_packet s x b e) (record {
           taken = walk_taken s (messages_of b) x (walk s (messages_of b) x) 0 0 ∙ omega arith;
           state = walk_state s (messages_of b) x (walk s (messages_of b) x) 0 0;
         })
-        go (C.Refused r) e =
+        go (Err r) e =
             let n : went ≡ [] = none_taken x r e went (walk s (messages_of b) x).each in
             rw (refuses_packet s x b r e) (record { taken = sym (ap length n); state = sym (ap (λ (l : List (List ℕ)). run_calls s x (map Receive l)) n) })
 
     -- where each way of stopping leads
-    stop_first : (r : Refusal) → first_failed (firsts x) ≡ C.Refused r → o.answer.stop ≡ refused_at 0 r
+    stop_first : (r : Refusal) → first_failed (firsts x) ≡ Err r → o.answer.stop ≡ refused_at 0 r
     stop_first r e = rw (refuses_packet s x b r e)
 
-    stop_message : Passed s x → (m : List ℕ) (start : ℕ) (y : State) → ComesTo s x b m start y → (r : Refusal) → (receive s y m).answer ≡ Refused r → o.answer.stop ≡ refused_at start r
+    stop_message : Passed s x → (m : List ℕ) (start : ℕ) (y : State) → ComesTo s x b m start y → (r : Refusal) → (receive s y m).answer ≡ Err r → o.answer.stop ≡ refused_at start r
     stop_message ok m start y c r e =
         let z = run_calls s x (map Receive c.before) in
-        let f : (receive s z m).answer ≡ Refused r = subst (λ (u : State). (receive s u m).answer ≡ Refused r) c.state e in
+        let f : (receive s z m).answer ≡ Err r = subst (λ (u : State). (receive s u m).answer ≡ Err r) c.state e in
         let at : 0 + bytes_in c.before ≡ start = omega (arith, c.starts) in
         rw (takes_packet s x b ((first_law x).1 ok), c.cut, each_before s c.before x c.taken 0 0 (m ∷ c.behind), f, at)
 
-    stop_end : Passed s x → EachTaken s x (messages_of b) → o.answer.stop ≡ P.AtEnd
+    stop_end : Passed s x → EachTaken s x (messages_of b) → o.answer.stop ≡ None
     stop_end ok t =
         rw (takes_packet s x b ((first_law x).1 ok), ← (append-nil (messages_of b)), each_before s (messages_of b) x t 0 0 [])
 
     -- there is no other way
-    data Way : Stop → Type 0 where
-      at_first : (r : Refusal) → first_failed (firsts x) ≡ C.Refused r → Way (refused_at 0 r)
-      at_message : Passed s x → (m : List ℕ) (start : ℕ) (y : State) → ComesTo s x b m start y → (r : Refusal) → (receive s y m).answer ≡ Refused r → Way (refused_at start r)
-      at_end : Passed s x → EachTaken s x (messages_of b) → Way P.AtEnd
+    data Way : Option Stopped → Type 0 where
+      at_first : (r : Refusal) → first_failed (firsts x) ≡ Err r → Way (refused_at 0 r)
+      at_message : Passed s x → (m : List ℕ) (start : ℕ) (y : State) → ComesTo s x b m start y → (r : Refusal) → (receive s y m).answer ≡ Err r → Way (refused_at start r)
+      at_end : Passed s x → EachTaken s x (messages_of b) → Way None
 
     way : Way o.answer.stop
     way = go (first_failed (firsts x)) refl
@@ -157,26 +154,36 @@ module _ (s : List ℕ) where
             subst Way (sym (stop_message ok m _ _ c r f)) (at_message ok m _ _ c r f)
 
         go : (a : Checked) → first_failed (firsts x) ≡ a → Way o.answer.stop
-        go (C.Refused r) e = subst Way (sym (stop_first r e)) (at_first r e)
-        go C.Accepted e = behind ((first_law x).0 e) (walk s (messages_of b) x).left (walk s (messages_of b) x).whole (walk s (messages_of b) x).rest
+        go (Err r) e = subst Way (sym (stop_first r e)) (at_first r e)
+        go (Ok _) e = behind ((first_law x).0 e) (walk s (messages_of b) x).left (walk s (messages_of b) x).whole (walk s (messages_of b) x).rest
 
     -- a stop with a number and a place, told by its cause
     data Told (n at : ℕ) : Type 0 where
-      first : (r : Refusal) → first_failed (firsts x) ≡ C.Refused r → refusal_number r ≡ n → packet_place 0 r ≡ at → Told n at
-      message : Passed s x → (m : List ℕ) (start : ℕ) (y : State) → ComesTo s x b m start y → (r : Refusal) → (receive s y m).answer ≡ Refused r
+      first : (r : Refusal) → first_failed (firsts x) ≡ Err r → refusal_number r ≡ n → packet_place 0 r ≡ at → Told n at
+      message : Passed s x → (m : List ℕ) (start : ℕ) (y : State) → ComesTo s x b m start y → (r : Refusal) → (receive s y m).answer ≡ Err r
           → refusal_number r ≡ n → packet_place start r ≡ at → Told n at
 
+    -- what a stop holds
+    refusal_or : Refusal → Option Stopped → Refusal
+    refusal_or r None = r
+    refusal_or r (Some e) = e.refusal
+
+    place_or : Option Stopped → ℕ
+    place_or None = 0
+    place_or (Some e) = e.place
+
     told : (n at : ℕ) → StoppedWith o.answer.stop n at → Told n at
+    unfolding refusal_or place_or
     told n at w = go o.answer.stop way w.is
       where
-        go : (e : Stop) → Way e → e ≡ P.Refused w.refusal w.place → Told n at
+        go : (e : Option Stopped) → Way e → e ≡ Some (record { refusal = w.refusal; place = w.place }) → Told n at
         go e (at_first r f) i =
-            let g : r ≡ w.refusal = cc in
-            let h : packet_place 0 r ≡ w.place = cc in
+            let g : r ≡ w.refusal = ap (refusal_or r) i in
+            let h : packet_place 0 r ≡ w.place = ap place_or i in
             first r f (ap refusal_number g ∙ w.number) (h ∙ w.counted)
         go e (at_message ok m start y c r f) i =
-            let g : r ≡ w.refusal = cc in
-            let h : packet_place start r ≡ w.place = cc in
+            let g : r ≡ w.refusal = ap (refusal_or r) i in
+            let h : packet_place start r ≡ w.place = ap place_or i in
             message ok m start y c r f (ap refusal_number g ∙ w.number) (h ∙ w.counted)
         go e (at_end ok t) i = let z : ◌≡◌ {A = ℕ} 0 1 = cc in absurd (omega arith)
 
@@ -243,9 +250,9 @@ module _ (s : List ℕ) where
         there (message ok d start y c r f e h) = absurd (not_later l (subst (λ (k : ℕ). (7 ≤ k) × (k ≤ 9)) e (later_number y d r (still_passed ok c) f)))
 
         back : RefusedWith (reply (receive s x m).answer) n at → (a : Checked) → first_failed (firsts x) ≡ a → StoppedWith o.answer.stop n at
-        back w C.Accepted e =
+        back w (Ok _) e =
             absurd (not_later l (subst (λ (k : ℕ). (7 ≤ k) × (k ≤ 9)) w.number (later_number x m w.refusal ((first_law x).0 e) ((refused (receive s x m).answer w.refusal).1 w.is))))
-        back w (C.Refused r) e =
+        back w (Err r) e =
             let g : r ≡ w.refusal = same_refusal r w.refusal (sym (ap reply (refuses_all x r e m)) ∙ w.is) in
             record {
               refusal = r;
@@ -263,7 +270,7 @@ module _ (s : List ℕ) where
         go (inr q) = inr (sym e ∙ q)
     no_other n at (message ok m start y c r f e h) = inl (omega (arith, later_number y m r (still_passed ok c) f, e))
 
-    to_end : (e : Stop) → Way e → e ≡ P.AtEnd → Passed s x × EachTaken s x (messages_of b)
+    to_end : (e : Option Stopped) → Way e → e ≡ None → Passed s x × EachTaken s x (messages_of b)
     to_end e (at_first r f) i = let z : ◌≡◌ {A = ℕ} 0 1 = cc in absurd (omega arith)
     to_end e (at_message ok m start y c r f) i = let z : ◌≡◌ {A = ℕ} 0 1 = cc in absurd (omega arith)
     to_end e (at_end ok t) i = (ok, t)

@@ -1,13 +1,12 @@
 -- One record, one card (02, request 5), proved: between two openings that are done the origin stays what the first of them wrote, since a take or a packet
 -- under another card is refused; and no two cards write the same.
-use Rattle.std.specs.Prelude.{ℕ, ◌≤◌, ◌<◌, ◌≡◌, refl, Bool, true, false, cond, ◌⊎◌, ◌↔◌, ◌≢◌, List, [], ◌∷◌, ◌++◌}
+use Rattle.std.specs.Prelude.{ℕ, ◌≤◌, ◌<◌, ◌≡◌, refl, Bool, true, false, cond, ◌⊎◌, ◌↔◌, ◌≢◌, List, [], ◌∷◌, ◌++◌, Err, Ok}
 use Rattle.std.proofs.Common.{arith, ap, subst, ◌∙◌, inl, inr}
 use Rattle.std.proofs.Math.Decide.{dec_lt, ℕ_discrete}
 use Rattle.std.proofs.Math.Path.{sym}
 use Rattle.refusal.specs.declared.Refusal.{Refusal}
 use Rattle.refusal.specs.declared.Refusal.TheVariants.{CorruptKnowledge}
-use Rattle.refusal.specs.declared.Answer.{Answer as Checked}
-use Rattle.refusal.specs.declared.Answer.TheVariants as C
+use Rattle.refusal.specs.Checks.{Checked, reply}
 use Rattle.refusal.specs.Numbers.{refusal_number, refusal_place}
 use Rattle.refusal.specs.Checks.{check, first_failed, and_then, Passed as AllPassed, Refuses, RefusedWith}
 use Rattle.refusal.proofs.Laws.{not_accepted, refusal_law, passing_law, in_order, refused_where}
@@ -16,11 +15,10 @@ use Rattle.policy.proofs.Answered.{causes as policy_causes}
 use Rattle.message.specs.Format.{messages_of}
 use Rattle.message.specs.Fixes.{meaning_of}
 use Rattle.knowledge.specs.Knowledge.{sound}
-use Rattle.monitor.specs.declared.Answer.TheVariants.{Done, Refused}
 use Rattle.origin.specs.Origin.{origin_of, same_bytes}
 use Rattle.origin.proofs.Origin.{same_law, one_origin}
-use Rattle.monitor.specs.State.{State, Outcome, unless, Sized, opened, settled, slip_checks, origin_checks, opening_checks, record_checks, take_checks, open_state, receive, receive_packet, Call, Receive, run_calls, after, Taken, Single, Packet, offers_each, run_entries}
-use Rattle.monitor.specs.Demands.{sizes_of, reply, Passed, StoppedWith, after_entries, takes_of, Lending, Opening, Taking, Packing, lending_state, run_lendings, NoneDone, LastDone, PastTwelve, StoppedPastTwelve, own, OnePolicy}
+use Rattle.monitor.specs.State.{State, Outcome, unless, Sized, opened, opened_as, settled, slip_checks, origin_checks, opening_checks, record_checks, take_checks, open_state, receive, receive_packet, Call, Receive, run_calls, after, Taken, Single, Packet, offers_each, run_entries}
+use Rattle.monitor.specs.Demands.{sizes_of, Passed, StoppedWith, after_entries, takes_of, Lending, Opening, Taking, Packing, lending_state, run_lendings, NoneDone, LastDone, PastTwelve, StoppedPastTwelve, own, OnePolicy}
 use Rattle.demands.proofs.Causes.{via, decided, reply_unless, one_number, slip_number, LetPast, passed_origin, origin_number}
 use Rattle.monitor.proofs.Leaves.{kept_origin}
 use Rattle.demands.proofs.Proved.{opens, demand_1, demand_2, refused}
@@ -36,16 +34,16 @@ run_append [] vs x = refl
 run_append (u ∷ us) vs x = run_append us vs (lending_state x u)
 
 -- an opening is done, or it is not and leaves the state
-opens_or_leaves : (s : List ℕ) (x : State) → ((open_state s x).answer ≡ Done) ⊎ (((open_state s x).answer ≡ Done → ⊥) × ((open_state s x).state ≡ x))
+opens_or_leaves : (s : List ℕ) (x : State) → ((open_state s x).answer ≡ Ok tt) ⊎ (((open_state s x).answer ≡ Ok tt → ⊥) × ((open_state s x).state ≡ x))
 unfolding open_state
 opens_or_leaves s x = go (first_failed (opening_checks s x))
   where
-    out : Checked → Outcome
-    out a = unless a x (record { answer = Done; state = opened (policy_of s) (origin_of s) })
+    out : Checked → Outcome (Unit {0})
+    out a = unless a x (opened_as (opened (policy_of s) (origin_of s)))
 
-    go : (a : Checked) → ((out a).answer ≡ Done) ⊎ (((out a).answer ≡ Done → ⊥) × ((out a).state ≡ x))
-    go C.Accepted = inl refl
-    go (C.Refused r) = inr (λ e. not_accepted r (ap reply e), refl)
+    go : (a : Checked) → ((out a).answer ≡ Ok tt) ⊎ (((out a).answer ≡ Ok tt → ⊥) × ((out a).state ≡ x))
+    go (Ok _) = inl refl
+    go (Err r) = inr (λ e. not_accepted r (ap reply e), refl)
 
 -- a list of which no opening is done: its first call is no such opening, and neither is one behind it
 none_behind : (x : State) (c : Lending) (cs : List Lending) → NoneDone x (c ∷ cs) → NoneDone (lending_state x c) cs
@@ -54,16 +52,16 @@ none_behind x c cs n us s vs e d = n (c ∷ us) s vs (ap (λ (l : List Lending).
 leaves : (s : List ℕ) (x : State) (cs : List Lending) → NoneDone x (Opening s ∷ cs) → (open_state s x).state ≡ x
 leaves s x cs n = go (opens_or_leaves s x)
   where
-    go : ((open_state s x).answer ≡ Done) ⊎ (((open_state s x).answer ≡ Done → ⊥) × ((open_state s x).state ≡ x)) → (open_state s x).state ≡ x
+    go : ((open_state s x).answer ≡ Ok tt) ⊎ (((open_state s x).answer ≡ Ok tt → ⊥) × ((open_state s x).state ≡ x)) → (open_state s x).state ≡ x
     go (inl d) = absurd (n [] s cs refl d)
     go (inr e) = e.1
 
-none_of : (x : State) (c : Lending) (cs : List Lending) → ((s : List ℕ) → c ≡ Opening s → (open_state s x).answer ≡ Done → ⊥) → NoneDone (lending_state x c) cs → NoneDone x (c ∷ cs)
+none_of : (x : State) (c : Lending) (cs : List Lending) → ((s : List ℕ) → c ≡ Opening s → (open_state s x).answer ≡ Ok tt → ⊥) → NoneDone (lending_state x c) cs → NoneDone x (c ∷ cs)
 none_of x c cs f n [] s vs e d = let h : c ≡ Opening s = cc in f s h d
 none_of x c cs f n (u ∷ us) s vs e d =
     let h : c ≡ u = cc in
     let t : cs ≡ us ++ (Opening s ∷ vs) = cc in
-    n us s vs t (subst (λ (k : Lending). (open_state s (run_lendings (lending_state x k) us)).answer ≡ Done) (sym h) d)
+    n us s vs t (subst (λ (k : Lending). (open_state s (run_lendings (lending_state x k) us)).answer ≡ Ok tt) (sym h) d)
 
 last_or_none : (cs : List Lending) (x : State) → ((r : List ℕ) × LastDone x cs r) ⊎ NoneDone x cs
 last_or_none [] x = inr (λ us s vs e. absurd (nowhere us s vs e))
@@ -76,10 +74,10 @@ last_or_none (c ∷ cs) x = go (last_or_none cs (lending_state x c))
     this : (c : Lending) → NoneDone (lending_state x c) cs → ((r : List ℕ) × LastDone x (c ∷ cs) r) ⊎ NoneDone x (c ∷ cs)
     this (Opening s) n = either (opens_or_leaves s x)
       where
-        either : ((open_state s x).answer ≡ Done) ⊎ (((open_state s x).answer ≡ Done → ⊥) × ((open_state s x).state ≡ x))
+        either : ((open_state s x).answer ≡ Ok tt) ⊎ (((open_state s x).answer ≡ Ok tt → ⊥) × ((open_state s x).state ≡ x))
             → ((r : List ℕ) × LastDone x (Opening s ∷ cs) r) ⊎ NoneDone x (Opening s ∷ cs)
         either (inl d) = inl (s, record { before = []; behind = cs; cut = refl; done = d; none_later = n })
-        either (inr q) = inr (none_of x (Opening s) cs (λ r e d. let h : s ≡ r = cc in q.0 (subst (λ (k : List ℕ). (open_state k x).answer ≡ Done) (sym h) d)) n)
+        either (inr q) = inr (none_of x (Opening s) cs (λ r e d. let h : s ≡ r = cc in q.0 (subst (λ (k : List ℕ). (open_state k x).answer ≡ Ok tt) (sym h) d)) n)
     this (Taking s b) n = inr (none_of x (Taking s b) cs (λ r e d. let z : ◌≡◌ {A = ℕ} 0 1 = cc in omega arith) n)
     this (Packing s b) n = inr (none_of x (Packing s b) cs (λ r e d. let z : ◌≡◌ {A = ℕ} 0 1 = cc in omega arith) n)
 
@@ -91,11 +89,11 @@ last_or_none (c ∷ cs) x = go (last_or_none cs (lending_state x c))
 
 -- the state is of the card's sizes, and was opened under it
 record Under (r : List ℕ) (y : State) : Type 0 where
-  card : policy_answer r ≡ C.Accepted
+  card : policy_answer r ≡ Ok tt
   sized : Sized (policy_of r) y
   origin : y.origin ≡ origin_of r
 
-opened_under_it : (r : List ℕ) (x : State) → (open_state r x).answer ≡ Done → Under r (open_state r x).state
+opened_under_it : (r : List ℕ) (x : State) → (open_state r x).answer ≡ Ok tt → Under r (open_state r x).state
 opened_under_it r x d = let o = demand_2.opening r x d in record { card = (opens r x d).card; sized = o.sized; origin = o.origin }
 
 module _ (r : List ℕ) where
@@ -107,7 +105,7 @@ module _ (r : List ℕ) where
   foreign_take : (y : State) → Under r y → (s b : List ℕ) → (s ≡ r → ⊥) → (receive s y b).state ≡ y
   foreign_take y u s b n = go (answers s y b)
     where
-      go : Taken (receive s y b).answer ⊎ ((q : Refusal) × ((receive s y b).answer ≡ Refused q)) → (receive s y b).state ≡ y
+      go : Taken (receive s y b).answer ⊎ ((q : Refusal) × ((receive s y b).answer ≡ Err q)) → (receive s y b).state ≡ y
       go (inl t) = absurd (n (own_card y u s b t))
       go (inr q) = kept s y b q.0 q.1
 
@@ -122,7 +120,7 @@ module _ (r : List ℕ) where
   take_under : (y : State) → Under r y → (s b : List ℕ) → Under r (receive s y b).state
   take_under y u s b = go (answers s y b)
     where
-      go : Taken (receive s y b).answer ⊎ ((q : Refusal) × ((receive s y b).answer ≡ Refused q)) → Under r (receive s y b).state
+      go : Taken (receive s y b).answer ⊎ ((q : Refusal) × ((receive s y b).answer ≡ Err q)) → Under r (receive s y b).state
       go (inl t) = record {
         card = u.card;
         sized = subst (λ (k : List ℕ). Sized (policy_of k) (receive s y b).state) (own_card y u s b t) (passed_on s y b t).sized;
@@ -181,7 +179,7 @@ module _ (s : List ℕ) (y : State) (b : List ℕ) where
   clean = sound (sizes_of s) y.known
 
   -- what the checks up to 12 refuse, the take refuses
-  refused_up_to : (q : Refusal) → first_failed (origin_checks s y) ≡ C.Refused q → (receive s y b).answer ≡ Refused q
+  refused_up_to : (q : Refusal) → first_failed (origin_checks s y) ≡ Err q → (receive s y b).answer ≡ Err q
   refused_up_to q e =
       refuses_all s y q (in_order (origin_checks s y) (check clean CorruptKnowledge ∷ []) ∙ ap (λ (a : Checked). and_then a (first_failed (check clean CorruptKnowledge ∷ []))) e) b
 
@@ -193,8 +191,8 @@ module _ (s : List ℕ) (y : State) (b : List ℕ) where
       up_to q f (inr g) = f.1 g
 
       go : (a : Checked) → first_failed (origin_checks s y) ≡ a → LetPast s (policy_causes s) y
-      go C.Accepted e = (passed_origin s (policy_causes s) y).0 ((passing_law (origin_checks s y)).0 e)
-      go (C.Refused q) e =
+      go (Ok _) e = (passed_origin s (policy_causes s) y).0 ((passing_law (origin_checks s y)).0 e)
+      go (Err q) e =
           absurd (up_to q (h (refusal_number q) (refusal_place q) (record { refusal = q; is = ap reply (refused_up_to q e); number = refl; place = refl }))
           (origin_number s (policy_causes s) y q ((refusal_law (origin_checks s y) q).0 e)))
 
@@ -202,10 +200,10 @@ module _ (s : List ℕ) (y : State) (b : List ℕ) where
   unfolding receive
   passes_past k n at w = later w.refusal (refused_where (record_checks s y) (slip_checks (policy_of s) y b) w.refusal ((refusal_law (take_checks s y b) w.refusal).0 failed)) w.number
     where
-      failed : first_failed (take_checks s y b) ≡ C.Refused w.refusal
+      failed : first_failed (take_checks s y b) ≡ Err w.refusal
       failed = sym (reply_unless (first_failed (take_checks s y b)) y (settled (policy_of s) y (meaning_of b)) refl) ∙ w.is
 
-      passed : first_failed (origin_checks s y) ≡ C.Accepted
+      passed : first_failed (origin_checks s y) ≡ Ok tt
       passed = (passing_law (origin_checks s y)).1 ((passed_origin s (policy_causes s) y).1 k)
 
       six : (q : Refusal) → Refuses (origin_checks s y) q ⊎ (AllPassed (origin_checks s y) × Refuses (check clean CorruptKnowledge ∷ []) q) → refusal_number q ≡ 6
@@ -233,7 +231,7 @@ packet_past s y b = (
 
 -- ---- in demand 3's lists
 
-passed_after : (s : List ℕ) (x : State) → (open_state s x).answer ≡ Done → (cs : List Call) → Passed s (after s x cs)
+passed_after : (s : List ℕ) (x : State) → (open_state s x).answer ≡ Ok tt → (cs : List Call) → Passed s (after s x cs)
 passed_after s x d cs =
     let k = up s x d cs in
     record { policy = (policy_causes s).accepted.0 (opens s x d).card; sized = k.sized; origin = k.origin; sound = k.exact.sound }

@@ -1,6 +1,6 @@
 -- Takes of byte strings one by one: some are taken, and behind them comes nothing or one that is refused. This settles how many are taken, what they
 -- mean and which state they leave, since a refused take leaves the state as it was.
-use Rattle.std.specs.Prelude.{ℕ, ◌+◌, ◌≤◌, ◌<◌, ◌≡◌, refl, ◌⊎◌, ◌↔◌, List, [], ◌∷◌, ◌++◌, map, length, take}
+use Rattle.std.specs.Prelude.{ℕ, ◌+◌, ◌≤◌, ◌<◌, ◌≡◌, refl, ◌⊎◌, ◌↔◌, List, [], ◌∷◌, ◌++◌, map, length, take, Err, Ok}
 use Rattle.std.proofs.Common.{add-zero, arith, sym, ap, ap₂, ◌∙◌, inl, inr, append-nil, append_assoc}
 use Rattle.std.proofs.lemmas.List.{map-append}
 use Rattle.std.proofs.Math.Seq.{take-append-add}
@@ -8,12 +8,12 @@ use Rattle.refusal.specs.declared.Refusal.{Refusal}
 use Rattle.logic.proofs.Bools.{both}
 use Rattle.policy.specs.Format.{policy_of}
 use Rattle.policy.proofs.Answered.{causes as policy_causes}
-use Rattle.message.specs.Fixes.{Message, meaning_of}
+use Rattle.message.specs.Fixes.{meaning_of}
+use Rattle.message.specs.declared.Message.{Message}
 use Rattle.knowledge.specs.Knowledge.{stored, sound, free, admits}
 use Rattle.knowledge.proofs.Laws.{sound_law}
 use Rattle.knowledge.proofs.Store.{store_long}
-use Rattle.monitor.specs.declared.Answer.{Answer}
-use Rattle.monitor.specs.declared.Answer.TheVariants.{Done, Received, Refused}
+use Rattle.monitor.specs.State.{Received}
 use Rattle.monitor.specs.State.{State, receive, PacketOutcome, take_each, Call, Receive, step, run_calls, Taken, took, accepted_by, accepted_from, if_taken, offers_each}
 use Rattle.monitor.specs.Demands.{sizes_of, Sheets, Passed, EachTaken, bytes_in}
 use Rattle.monitor.proofs.Laws.{knowledge_sized, over_sized}
@@ -21,10 +21,9 @@ use Rattle.monitor.proofs.Leaves.{stops, goes_on}
 use Rattle.demands.proofs.Runs.{run_append}
 use Rattle.demands.proofs.Proved.{ranged, demand_1, demand_2, left}
 
-all_of : (a : Answer) → Taken a → (cs : List Call) → if_taken a cs ≡ cs
-all_of Done t cs = refl
-all_of (Received n) t cs = refl
-all_of (Refused r) t cs = absurd t
+all_of : (a : Received) → Taken a → (cs : List Call) → if_taken a cs ≡ cs
+all_of (Ok n) t cs = refl
+all_of (Err r) t cs = absurd t
 
 module _ (s : List ℕ) where
   pub accepted_append : (cs ds : List Call) (x : State) → accepted_from s x (cs ++ ds) ≡ accepted_from s x cs ++ accepted_from s (run_calls s x cs) ds
@@ -36,19 +35,18 @@ module _ (s : List ℕ) where
 
   -- ---- one take
 
-  pub answers : (x : State) (m : List ℕ) → Taken (receive s x m).answer ⊎ ((r : Refusal) × ((receive s x m).answer ≡ Refused r))
+  pub answers : (x : State) (m : List ℕ) → Taken (receive s x m).answer ⊎ ((r : Refusal) × ((receive s x m).answer ≡ Err r))
   answers x m = go (receive s x m).answer refl
     where
-      go : (a : Answer) → (receive s x m).answer ≡ a → Taken (receive s x m).answer ⊎ ((r : Refusal) × ((receive s x m).answer ≡ Refused r))
-      go Done e = inl (rw e tt)
-      go (Received n) e = inl (rw e tt)
-      go (Refused r) e = inr (r, e)
+      go : (a : Received) → (receive s x m).answer ≡ a → Taken (receive s x m).answer ⊎ ((r : Refusal) × ((receive s x m).answer ≡ Err r))
+      go (Ok n) e = inl (rw e tt)
+      go (Err r) e = inr (r, e)
 
   -- a take that is accepted took its message; a refused one took none and leaves the state
   took_one : (x : State) (m : List ℕ) → Taken (receive s x m).answer → took (receive s x m).answer m ≡ meaning_of m ∷ []
   took_one x m t = rw (left s x m t).answer
 
-  pub kept : (x : State) (m : List ℕ) (r : Refusal) → (receive s x m).answer ≡ Refused r → (receive s x m).state ≡ x
+  pub kept : (x : State) (m : List ℕ) (r : Refusal) → (receive s x m).answer ≡ Err r → (receive s x m).state ≡ x
   kept x m r e = (demand_1.take s x m).unwritten r e
 
   -- ---- byte strings that are all taken
@@ -75,7 +73,7 @@ module _ (s : List ℕ) where
 
   pub data Rest (y : State) : List (List ℕ) → Type 0 where
     none_left : Rest y []
-    halted : (m : List ℕ) (behind : List (List ℕ)) (r : Refusal) → (receive s y m).answer ≡ Refused r → Rest y (m ∷ behind)
+    halted : (m : List ℕ) (behind : List (List ℕ)) (r : Refusal) → (receive s y m).answer ≡ Err r → Rest y (m ∷ behind)
 
   rest_state : {y : State} {l : List (List ℕ)} → Rest y l → run_calls s y (offers_each s y l) ≡ y
   rest_state none_left = refl
@@ -104,7 +102,7 @@ module _ (s : List ℕ) where
   walk [] x = record { went = []; left = []; whole = refl; each = tt; rest = none_left }
   walk (m ∷ ms) x = go (walk ms (receive s x m).state) (answers x m)
     where
-      go : Walk (receive s x m).state ms → Taken (receive s x m).answer ⊎ ((r : Refusal) × ((receive s x m).answer ≡ Refused r)) → Walk x (m ∷ ms)
+      go : Walk (receive s x m).state ms → Taken (receive s x m).answer ⊎ ((r : Refusal) × ((receive s x m).answer ≡ Err r)) → Walk x (m ∷ ms)
       go w (inl t) = record { went = m ∷ w.went; left = w.left; whole = ap (λ (l : List (List ℕ)). m ∷ l) w.whole; each = (t, w.each); rest = w.rest }
       go w (inr q) = record { went = []; left = m ∷ ms; whole = refl; each = tt; rest = halted m ms q.0 q.1 }
 
@@ -147,7 +145,7 @@ module _ (s : List ℕ) where
   so_many (m ∷ ms) x n at rest h = go (so_many ms (receive s x m).state (n + 1) (at + bytes_in (m ∷ [])) rest) (answers x m)
     where
       go : (n + 1 + length ms ≤ (take_each s (receive s x m).state (n + 1) (at + bytes_in (m ∷ [])) (ms ++ rest)).answer.taken → EachTaken s (receive s x m).state ms)
-          → Taken (receive s x m).answer ⊎ ((r : Refusal) × ((receive s x m).answer ≡ Refused r)) → EachTaken s x (m ∷ ms)
+          → Taken (receive s x m).answer ⊎ ((r : Refusal) × ((receive s x m).answer ≡ Err r)) → EachTaken s x (m ∷ ms)
       go f (inl t) = (t, f (omega (arith, h, ap (λ (o : PacketOutcome). o.answer.taken) (each_before (m ∷ []) x (t, tt) n at (ms ++ rest)))))
       go f (inr q) = let l : n + length (m ∷ ms) ≤ n = rw q.1 at h in absurd (omega arith)
 
@@ -155,7 +153,7 @@ module _ (s : List ℕ) where
   pub one_more : (m : List ℕ) (behind : List (List ℕ)) (y : State) (n at : ℕ) → (n < (take_each s y n at (m ∷ behind)).answer.taken) ↔ Taken (receive s y m).answer
   one_more m behind y n at = go (answers y m)
     where
-      go : Taken (receive s y m).answer ⊎ ((r : Refusal) × ((receive s y m).answer ≡ Refused r)) → (n < (take_each s y n at (m ∷ behind)).answer.taken) ↔ Taken (receive s y m).answer
+      go : Taken (receive s y m).answer ⊎ ((r : Refusal) × ((receive s y m).answer ≡ Err r)) → (n < (take_each s y n at (m ∷ behind)).answer.taken) ↔ Taken (receive s y m).answer
       go (inl t) =
           let z = (receive s y m).state in
           let e = ap (λ (o : PacketOutcome). o.answer.taken) (each_before (m ∷ []) y (t, tt) n at behind) in

@@ -7,7 +7,8 @@ use mathlib.Core.List.{List, [], ◌∷◌, Memᴰ}
 use Rattle.bits.specs.Bits.{bit}
 use Rattle.policy.specs.Format.{policy_of}
 use Rattle.message.specs.declared.Event.TheVariants.{Observation, Alive}
-use Rattle.message.specs.Fixes.{Message, meaning_of}
+use Rattle.message.specs.Fixes.{meaning_of}
+use Rattle.message.specs.declared.Message.{Message}
 use Rattle.knowledge.specs.Trace.{Trace}
 use Rattle.reach.specs.Reaches.{rule_reach}
 use Rattle.completeness.specs.Complete.{Every}

@@ -1,12 +1,10 @@
 -- 01, "A small shift to check by": the starred cases, jointly, from the bytes of 01 to the verdict sheet and the refusals. They hold whatever the
 -- buffers held before the opening.
-use Rattle.std.specs.Prelude.{ℕ, ◌≡◌, List, [], ◌∷◌, ◌++◌, map, replicate, set}
+use Rattle.std.specs.Prelude.{ℕ, ◌≡◌, List, [], ◌∷◌, ◌++◌, map, replicate, set, Err, Ok, Option, None, Some}
 use Rattle.refusal.specs.declared.Refusal.TheVariants.{BufferSize, CorruptKnowledge, TruncatedMessage, BadMessage, Conflict, OtherPolicy}
-use Rattle.monitor.specs.declared.Answer.{Answer}
-use Rattle.monitor.specs.declared.Answer.TheVariants.{Done, Received, Refused}
+use Rattle.monitor.specs.State.{Received}
 use Rattle.monitor.specs.declared.PacketAnswer.{PacketAnswer}
-use Rattle.monitor.specs.declared.Stop.{Stop}
-use Rattle.monitor.specs.declared.Stop.TheVariants as P
+use Rattle.monitor.specs.declared.Stopped.{Stopped}
 use Rattle.origin.specs.Origin.{Origin, stamped, origin_of}
 use Rattle.monitor.specs.State.{State, open_state, receive, PacketOutcome, receive_packet, Receive, after}
 
@@ -45,7 +43,7 @@ alive_at_4 = 0x16 ∷ 0x04 ∷ 0x00 ∷ 0x01 ∷ 0x00 ∷ []
 abbrev pub sheet : List ℕ → State → List (List ℕ) → List ℕ
 sheet s x bs = (after s x (map Receive bs)).verdicts
 
-abbrev pub reply : List ℕ → State → List (List ℕ) → List ℕ → Answer
+abbrev pub reply : List ℕ → State → List (List ℕ) → List ℕ → Received
 reply s x bs b = (receive s (after s x (map Receive bs)) b).answer
 
 abbrev row : ℕ → ℕ → ℕ → ℕ → List ℕ
@@ -61,17 +59,17 @@ pub record SmallShift (x y : State) : Type 0 where
   pub abd : sheet K x (A ∷ B ∷ D ∷ []) ≡ row 2 0 1 1
   pub d : sheet K x (D ∷ []) ≡ row 0 0 0 0
   -- `10` is taken and changes nothing
-  pub idle : reply K x [] (0x10 ∷ []) ≡ Received 0
+  pub idle : reply K x [] (0x10 ∷ []) ≡ Ok 0
   pub idle_state : after K x (Receive (0x10 ∷ []) ∷ []) ≡ after K x []
   -- `00` is 8, `04 02 00` is 9, and after A `12 01 00` is 9 and so is A with last byte 01
-  pub bad : reply K x [] (0x00 ∷ []) ≡ Refused BadMessage
-  pub conflict : reply K x [] (0x04 ∷ 0x02 ∷ 0x00 ∷ []) ≡ Refused Conflict
-  pub conflict_alive : reply K x (A ∷ []) (0x12 ∷ 0x01 ∷ 0x00 ∷ []) ≡ Refused Conflict
-  pub conflict_fact : reply K x (A ∷ []) A' ≡ Refused Conflict
+  pub bad : reply K x [] (0x00 ∷ []) ≡ Err BadMessage
+  pub conflict : reply K x [] (0x04 ∷ 0x02 ∷ 0x00 ∷ []) ≡ Err Conflict
+  pub conflict_alive : reply K x (A ∷ []) (0x12 ∷ 0x01 ∷ 0x00 ∷ []) ≡ Err Conflict
+  pub conflict_fact : reply K x (A ∷ []) A' ≡ Err Conflict
   -- 65535 is well_formed and no count
-  pub conflict_none : reply K x [] (0x16 ∷ 0x04 ∷ 0x00 ∷ 0xFF ∷ 0xFF ∷ []) ≡ Refused Conflict
+  pub conflict_none : reply K x [] (0x16 ∷ 0x04 ∷ 0x00 ∷ 0xFF ∷ 0xFF ∷ []) ≡ Err Conflict
   -- how many verdicts stand
-  pub total : reply K x (A ∷ B ∷ []) D ≡ Received 3
+  pub total : reply K x (A ∷ B ∷ []) D ≡ Ok 3
   -- a false mark at a busy minute 3 gives blank; at minute 2 with minute 3 quiet, broken
   pub until_blank : sheet U y (false_at_3 ∷ []) ≡ row 0 0 0 0
   pub until_broken : sheet U y (false_at_2 ∷ alive_at_4 ∷ []) ≡ row 0 0 2 0
@@ -81,26 +79,26 @@ abbrev pub frame : State → List ℕ → PacketOutcome
 frame x b = receive_packet K (after K x []) b
 
 -- how many messages are taken, and where the packet stops
-abbrev ended : ℕ → Stop → PacketAnswer
+abbrev ended : ℕ → Option Stopped → PacketAnswer
 ended n e = record { taken = n; stop = e }
 
 pub record SmallPackets (x : State) : Type 0 where
   -- A, B and D in one packet, or in another order
-  pub abd : (frame x (A ++ B ++ D)).answer ≡ ended 3 P.AtEnd
+  pub abd : (frame x (A ++ B ++ D)).answer ≡ ended 3 None
   pub abd_sheet : (frame x (A ++ B ++ D)).state.verdicts ≡ row 2 0 1 1
   pub dba_state : (frame x (D ++ B ++ A)).state ≡ (frame x (A ++ B ++ D)).state
   -- it ends inside its second message: 7 at the packet's length, and A remains taken
-  pub cut : (frame x (A ++ (0x06 ∷ 0x03 ∷ []))).answer ≡ ended 1 (P.Refused (TruncatedMessage 2) 10)
+  pub cut : (frame x (A ++ (0x06 ∷ 0x03 ∷ []))).answer ≡ ended 1 (Some (record { refusal = (TruncatedMessage 2); place = 10 }))
   pub cut_sheet : (frame x (A ++ (0x06 ∷ 0x03 ∷ []))).state.verdicts ≡ row 2 0 0 0
   -- `00` is 8 at its first byte, and B behind it is not taken
-  pub bad : (frame x (A ++ (0x00 ∷ B))).answer ≡ ended 1 (P.Refused BadMessage 8)
+  pub bad : (frame x (A ++ (0x00 ∷ B))).answer ≡ ended 1 (Some (record { refusal = BadMessage; place = 8 }))
   pub bad_sheet : (frame x (A ++ (0x00 ∷ B))).state.verdicts ≡ row 2 0 0 0
   -- `12 01 00` after A is 9 at its first byte
-  pub conflict : (frame x (A ++ (0x12 ∷ 0x01 ∷ 0x00 ∷ D))).answer ≡ ended 1 (P.Refused Conflict 8)
+  pub conflict : (frame x (A ++ (0x12 ∷ 0x01 ∷ 0x00 ∷ D))).answer ≡ ended 1 (Some (record { refusal = Conflict; place = 8 }))
   -- the first message is refused, and the packet is empty: nothing is written
-  pub first_bad : (frame x (0x00 ∷ A)).answer ≡ ended 0 (P.Refused BadMessage 0)
+  pub first_bad : (frame x (0x00 ∷ A)).answer ≡ ended 0 (Some (record { refusal = BadMessage; place = 0 }))
   pub first_bad_state : (frame x (0x00 ∷ A)).state ≡ after K x []
-  pub empty : (frame x []).answer ≡ ended 0 P.AtEnd
+  pub empty : (frame x []).answer ≡ ended 0 None
   pub empty_state : (frame x []).state ≡ after K x []
 
 -- 02, request 4: "A mixer lost two slips at minutes 0 and 1, then reported count 3 at minute 2." Under T, whose one rule is "true", the sheet shows kept at
@@ -123,7 +121,7 @@ alive_at_3 = 0x16 ∷ 0x03 ∷ 0x00 ∷ 0x03 ∷ 0x00 ∷ []
 pub record LostSlips (x : State) : Type 0 where
   -- all three minutes are busy; of minute 3 nothing is known
   pub all_three : sheet T x (mixer ∷ []) ≡ row 1 1 1 0
-  pub total : reply T x [] mixer ≡ Received 3
+  pub total : reply T x [] mixer ≡ Ok 3
   -- so they are if the mixer reports no observation, but that it is alive after three
   pub by_alive : sheet T x (alive_at_3 ∷ []) ≡ row 1 1 1 0
   -- with count 2 one of the minutes 0 and 1 was quiet, and which is not known; once minute 0 is known quiet, it was that one
@@ -150,25 +148,25 @@ pub record TwoCards (x : State) : Type 0 where
   -- K's 13 bytes and 504 zeros are stored, and their number
   pub stored : x.origin ≡ stamped (K ++ replicate 504 0) 13
   -- under K and then lent U, a take and a packet, an empty one too, are 12 and change nothing; lent K again they are taken
-  pub take_other : receive U (receive K x A).state B ≡ record { answer = Refused OtherPolicy; state = (receive K x A).state }
-  pub packet_other : receive_packet U (receive K x A).state B ≡ record { answer = ended 0 (P.Refused OtherPolicy 0); state = (receive K x A).state }
-  pub empty_other : (receive_packet U (receive K x A).state []).answer ≡ ended 0 (P.Refused OtherPolicy 0)
-  pub take_own : (receive K (receive K x A).state B).answer ≡ Received 2
+  pub take_other : receive U (receive K x A).state B ≡ record { answer = Err OtherPolicy; state = (receive K x A).state }
+  pub packet_other : receive_packet U (receive K x A).state B ≡ record { answer = ended 0 (Some (record { refusal = OtherPolicy; place = 0 })); state = (receive K x A).state }
+  pub empty_other : (receive_packet U (receive K x A).state []).answer ≡ ended 0 (Some (record { refusal = OtherPolicy; place = 0 }))
+  pub take_own : (receive K (receive K x A).state B).answer ≡ Ok 2
   -- opened under U it is U's, and no longer K's
-  pub opened_anew : (open_state U (receive K x A).state).answer ≡ Done
-  pub then_own : (receive U (open_state U (receive K x A).state).state false_at_3).answer ≡ Received 0
-  pub then_other : (receive K (open_state U (receive K x A).state).state A).answer ≡ Refused OtherPolicy
+  pub opened_anew : (open_state U (receive K x A).state).answer ≡ Ok tt
+  pub then_own : (receive U (open_state U (receive K x A).state).state false_at_3).answer ≡ Ok 0
+  pub then_other : (receive K (open_state U (receive K x A).state).state A).answer ≡ Err OtherPolicy
   -- a byte of the card, the first behind it, and the last; a length one less, one more, and above 517
-  pub in_card : (receive K (restamped x (byte_off 12 1)) A).answer ≡ Refused OtherPolicy
-  pub behind_card : (receive K (restamped x (byte_off 13 1)) A).answer ≡ Refused OtherPolicy
-  pub last_byte : (receive K (restamped x (byte_off 516 1)) A).answer ≡ Refused OtherPolicy
-  pub shorter : (receive K (restamped x (length_off 12)) A).answer ≡ Refused OtherPolicy
-  pub longer : (receive K (restamped x (length_off 14)) A).answer ≡ Refused OtherPolicy
-  pub past_all : (receive K (restamped x (length_off 518)) A).answer ≡ Refused OtherPolicy
+  pub in_card : (receive K (restamped x (byte_off 12 1)) A).answer ≡ Err OtherPolicy
+  pub behind_card : (receive K (restamped x (byte_off 13 1)) A).answer ≡ Err OtherPolicy
+  pub last_byte : (receive K (restamped x (byte_off 516 1)) A).answer ≡ Err OtherPolicy
+  pub shorter : (receive K (restamped x (length_off 12)) A).answer ≡ Err OtherPolicy
+  pub longer : (receive K (restamped x (length_off 14)) A).answer ≡ Err OtherPolicy
+  pub past_all : (receive K (restamped x (length_off 518)) A).answer ≡ Err OtherPolicy
   -- after 5: a buffer of 516 bytes; before 6: a record that is not sound
-  pub short_buffer : (receive K (restamped x (stamped (replicate 516 0) 13)) A).answer ≡ Refused BufferSize
-  pub unsound_other : (receive U (unsound x) A).answer ≡ Refused OtherPolicy
-  pub unsound_own : (receive K (unsound x) A).answer ≡ Refused CorruptKnowledge
+  pub short_buffer : (receive K (restamped x (stamped (replicate 516 0) 13)) A).answer ≡ Err BufferSize
+  pub unsound_other : (receive U (unsound x) A).answer ≡ Err OtherPolicy
+  pub unsound_own : (receive K (unsound x) A).answer ≡ Err CorruptKnowledge
 
 -- 02, request 6: and, implies, once, historically, eventually and always, each a rule: of marks 0 and 1, or of mark 0 from 0 to 1 minutes away
 abbrev pub N : List ℕ
@@ -199,4 +197,4 @@ pub record SixKinds (x : State) : Type 0 where
   -- the work sheet, after the marks' own rows: at the quiet minute 1 once, historically, eventually and always have values, and no verdict
   pub values : (after N x (map Receive (first_at_0 ∷ second_at_2 ∷ []))).valuation
       ≡ row 1 0 2 0 ++ row 2 0 1 0 ++ row 2 0 2 0 ++ row 2 0 1 0 ++ row 1 1 2 0 ++ row 1 1 2 2 ++ row 1 2 0 0 ++ row 1 2 2 0
-  pub total : reply N x (first_at_0 ∷ []) second_at_2 ≡ Received 11
+  pub total : reply N x (first_at_0 ∷ []) second_at_2 ≡ Ok 11

@@ -1,4 +1,3 @@
-pub mod Present
 pub mod Putting
 pub mod Gathering
 pub mod Laws

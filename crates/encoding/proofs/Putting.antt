@@ -1,5 +1,5 @@
 -- Bytes are stored one after another: what is stored so far and what is left make the whole. Assumes nothing.
-use Prim.Native.Nat.{ℕ, zero, suc, ◌+◌, ◌-◌, ◌/◌, ◌%◌, ◌≤◌, ◌<◌}
+use Prim.Native.Nat.{ℕ, suc, ◌+◌, ◌-◌, ◌/◌, ◌%◌, ◌≤◌, ◌<◌}
 use native.Mathlib.Omega.{arith}
 use native.Mathlib.Nat.{add-zero, zero-add}
 use mathlib.Core.Path.{◌≡◌, refl, ap, sym, ◌∙◌}
@@ -10,25 +10,11 @@ use Rattle.encoding.specs.Layout.{takes}
 use Rattle.encoding.specs.Text.{bytes_of, field_text}
 use Rattle.encoding.proofs.Texts.{length_bytes, length_field}
 
--- a number that is not 0 takes its bytes, and is written in them
-pub takes_some : (n w : ℕ) → (n ≡ 0 → ⊥) → takes n w ≡ w
-takes_some zero w h = absurd (h refl)
-takes_some (suc n) w h = refl
-
-text_some : (n w : ℕ) → (n ≡ 0 → ⊥) → field_text w n ≡ bytes_of w n
-text_some zero w h = absurd (h refl)
-text_some (suc n) w h = refl
-
 -- i bytes are stored, and those that are left, stored too, make what is wanted
 pub record Putting (out₀ : List ℕ) (at width value : ℕ) (out : List ℕ) (rest i : ℕ) : Type 0 where
   pub within : i ≤ width
   pub long : length out ≡ length out₀
   pub left : sets out (at + i) (bytes_of (width - i) rest) ≡ sets out₀ at (bytes_of width value)
-
-pub begin : (out : List ℕ) (at width value : ℕ) → Putting out at width value out value 0
-begin out at width value =
-    let all : width - 0 ≡ width = omega arith in
-    record { within = omega arith; long = refl; left = rw (add-zero at, all) refl }
 
 pub turn : (out₀ : List ℕ) (at width value : ℕ) (out : List ℕ) (rest i : ℕ) → Putting out₀ at width value out rest i → i < width
     → Putting out₀ at width value (set out (at + i) (rest % 256)) (rest / 256) (i + 1)
@@ -40,20 +26,6 @@ turn out₀ at width value out rest i p h =
       long = length-set out (at + i) (rest % 256) ∙ p.long;
       left = rw next (sym (ap (λ (k : ℕ). sets out (at + i) (bytes_of k rest)) one) ∙ p.left);
     }
-
-pub done : (out₀ : List ℕ) (at width value : ℕ) (out : List ℕ) (rest i : ℕ) → Putting out₀ at width value out rest i → width ≤ i
-    → out ≡ sets out₀ at (bytes_of width value)
-done out₀ at width value out rest i p h =
-    let none : width - i ≡ 0 = omega arith in
-    ap (λ (k : ℕ). sets out (at + i) (bytes_of k rest)) (sym none) ∙ p.left
-
--- a field that is 0 is not written; any other is, in its bytes
-pub unwritten : (out : List ℕ) (at w n : ℕ) → n ≡ 0 → (at ≡ at + takes n w) × (out ≡ sets out at (field_text w n))
-unwritten out at w n e = rw e (sym (add-zero at), refl)
-
-pub written : (out : List ℕ) (at w n r : ℕ) (out' : List ℕ) → (n ≡ 0 → ⊥) → (r ≡ at + w) × (out' ≡ sets out at (bytes_of w n))
-    → (r ≡ at + takes n w) × (out' ≡ sets out at (field_text w n))
-written out at w n r out' h e = (e.0 ∙ ap (λ (k : ℕ). at + k) (sym (takes_some n w h)), e.1 ∙ ap (sets out at) (sym (text_some n w h)))
 
 -- ---- one text after another
 

@@ -6,9 +6,10 @@ use native.Mathlib.Decide.{dec_lt}
 use mathlib.Core.Path.{◌≡◌, refl, sym, ap, ap₂, subst, ◌∙◌}
 use mathlib.Core.Bool.{true, false}
 use mathlib.Core.List.{List, ◌++◌}
-use lib.ListN.{get_or, length, take, drop, length-append, length-take, length-drop, get_or-eq_default}
+use lib.ListN.{get_or, length, take, drop, length-drop, get_or-eq_default}
 use lib.Seq.{length-take-le, get_or-take, get_or-drop, drop-drop}
 use borrow.Author.Tests.{lt-ltb, le-ltb}
+use borrow.Rule.Slice.PartMut.{put_mid}
 use Rattle.kleene.specs.Truth.{Truth, unknown, true3, not3, or3, and3, code_of, value_of}
 use Rattle.kleene.proofs.Truth.{value_of_code}
 use Rattle.kleene.proofs.Tests.{implies_and}
@@ -30,7 +31,7 @@ use Rattle.policy.specs.Proper.{Proper, formula_at}
 use Rattle.knowledge.specs.Knowledge.{Knowledge, point_known, world}
 use Rattle.valuation.specs.Sheets.{value}
 use Rattle.operator_rows.proofs.Shown.{past}
-use Rattle.valuation.specs.Rows.{Shows, Row, run, Rows, Points, Unbroken, Based, Workable}
+use Rattle.valuation.specs.Rows.{Shows, Row, run, Rows, Points, Unbroken, Workable}
 
 -- ---- one row of several
 
@@ -53,23 +54,18 @@ module _ (z : Sizes) (k : Knowledge) where
   pub off_window : (t : ℕ) (x : Truth) → z.minutes ≤ t → seen (world z k) t x ≡ unknown
   off_window t x h = rw (le-ltb t z.minutes h, seen) refl
 
-  -- a row, as the window shows it
-  pub seen_row : (f : ℕ → Truth) (r : List ℕ) → Row z.minutes f r → Row z.minutes (λ t. seen (world z k) t (f t)) r
-  seen_row f r h t l = h t l ∙ ap code_of (sym (in_window t (f t) l))
+  -- a row over n minutes, all those of the window, as the window shows it; an abbreviation's parts are lines of their own, seen as far as it goes
+  pub seen_row : (n : ℕ) (f : ℕ → Truth) (r : List ℕ) → n ≡ z.minutes → Row n f r → Row z.minutes (λ t. seen (world z k) t (f t)) r
+  seen_row n f r e h t l = h t (omega arith) ∙ ap code_of (sym (in_window t (f t) l))
 
-  -- an abbreviation's parts are lines of their own, seen as far as the window goes: at one minute, and row by row
-  pub and_row : (f g : ℕ → Truth) (r : List ℕ) → Row z.minutes (λ t. and3 (f t) (g t)) r
-      → Row z.minutes (λ t. let s = seen (world z k) t in s (not3 (s (or3 (s (not3 (f t))) (s (not3 (g t))))))) r
-  and_row f g r h t l =
-      h t l ∙ ap code_of (sym (in_window t _ l ∙ ap not3 (in_window t _ l ∙ ap₂ or3 (in_window t (not3 (f t)) l) (in_window t (not3 (g t)) l))))
-
-  pub implies_row : (f g : ℕ → Truth) (r : List ℕ) → Row z.minutes (λ t. not3 (and3 (f t) (not3 (g t)))) r
+  pub implies_row : (n : ℕ) (f g : ℕ → Truth) (r : List ℕ) → n ≡ z.minutes → Row n (λ t. not3 (and3 (f t) (not3 (g t)))) r
       → Row z.minutes (λ t. let s = seen (world z k) t in s (or3 (s (not3 (f t))) (g t))) r
-  implies_row f g r h t l = h t l ∙ ap code_of (implies_and (f t) (g t) ∙ sym (in_window t _ l ∙ ap (λ (x : Truth). or3 x (g t)) (in_window t (not3 (f t)) l)))
+  implies_row n f g r e h t l =
+      h t (omega arith) ∙ ap code_of (implies_and (f t) (g t) ∙ sym (in_window t _ l ∙ ap (λ (x : Truth). or3 x (g t)) (in_window t (not3 (f t)) l)))
 
-  pub not_seen_row : (f : ℕ → Truth) (r : List ℕ) → Row z.minutes (λ t. not3 (f t)) r
+  pub not_seen_row : (n : ℕ) (f : ℕ → Truth) (r : List ℕ) → n ≡ z.minutes → Row n (λ t. not3 (f t)) r
       → Row z.minutes (λ t. let s = seen (world z k) t in s (not3 (s (f t)))) r
-  not_seen_row f r h t l = h t l ∙ ap code_of (sym (in_window t _ l ∙ ap not3 (in_window t (f t) l)))
+  not_seen_row n f r e h t l = h t (omega arith) ∙ ap code_of (sym (in_window t _ l ∙ ap not3 (in_window t (f t) l)))
 
   pub true_left : (n : ℕ) (f : ℕ → Truth) → n ≡ z.minutes → Unbroken n false f (λ s. seen (world z k) s true3) f
   true_left n f e = record { held = λ s h. in_window s true3 (omega arith); sought = λ s. refl }
@@ -91,10 +87,10 @@ module _ (z : Sizes) (k : Knowledge) where
       go (yes w) = ap value_of (h t w) ∙ value_of_code (f t)
       go (no w) = ap value_of (get_or-eq_default l 0 (omega arith)) ∙ sym (o t (omega arith))
 
-  pub points_show : (n : ℕ) (l : List ℕ) → n ≡ z.minutes → n ≤ length l → Points z k l → Shows (take n l) (point three (world z k))
-  points_show n l e h p =
-      shows (take n l) (point three (world z k)) (length-take-le n l h ∙ e)
-      (λ t w. get_or-take n l t 0 (omega arith) ∙ p t w ∙ ap code_of (sym (in_window t (point_known z k t) w)))
+  pub points_show : (l : List ℕ) → z.minutes ≤ length l → Points z k l → Shows (take z.minutes l) (point three (world z k))
+  points_show l h p =
+      shows (take z.minutes l) (point three (world z k)) (length-take-le z.minutes l h)
+      (λ t w. get_or-take z.minutes l t 0 w ∙ p t w ∙ ap code_of (sym (in_window t (point_known z k t) w)))
       (λ t w. off_window t (point_known z k t) w)
 
 -- ---- the rows of the work sheet
@@ -137,13 +133,13 @@ module _ (p : Policy) (k : Knowledge) (earlier : Earlier (formula_at p)) where
 
 -- ---- one row more
 
--- what a newer kind needs of it
-pub based : {z : Sizes} {φ : Formula} {p f l : List ℕ} → Workable z φ p f l → Based z φ p l
-based w = record { minutes = w.minutes; points = w.points; operands = w.operands; bounded = w.bounded }
-
 -- the time points, as far as the window goes
-pub front : {z : Sizes} {φ : Formula} {p l : List ℕ} → Based z φ p l → length (take (z.minutes - 0) p) ≡ z.minutes
-front {z} {φ} {p} w = length-take-le (z.minutes - 0) p (omega (arith, w.minutes, w.points)) ∙ omega arith
+pub front : {z : Sizes} {φ : Formula} {p f l : List ℕ} → Workable z φ p f l → length (take z.minutes p) ≡ z.minutes
+front {z} {φ} {p} w = length-take-le z.minutes p (omega (arith, w.minutes, w.points))
+
+-- what the formula that this one is has
+pub its : {z : Sizes} {φ ψ : Formula} {p f l : List ℕ} → φ ≡ ψ → Workable z φ p f l → Workable z ψ p f l
+its {z} {φ} {ψ} {p} {f} {l} e w = subst (λ (χ : Formula). Workable z χ p f l) e w
 
 -- a row of the formula that this one is
 pub worked : (z : Sizes) (k : Knowledge) (v : ℕ → ℕ → Truth) (r : List ℕ) {φ ψ : Formula} → φ ≡ ψ
@@ -170,12 +166,6 @@ given_back at m xs ys =
     let n : at + m - at ≡ m = omega arith in
     rw (n, drop-drop) refl
 
-pub back_length : (at m : ℕ) (xs ys : List ℕ) → at + m ≤ length xs → length ys ≡ length (take (at + m - at) (drop at xs))
-    → length (take at xs ++ (ys ++ drop (at + m - at) (drop at xs))) ≡ length xs
-back_length at m xs ys h e =
-    let k : length ys ≡ m = e ∙ simp (length-take, length-drop) (omega arith) in
-    simp (length-append, length-take, length-drop) (omega arith)
-
 module _ (p : Policy) (proper : Proper p) (i : ℕ) (under : i < p.count) where
   pub workable : (points facts l : List ℕ) → length points ≡ 1024 → length facts ≡ 2 * p.sizes.minutes → length l ≡ i * p.sizes.minutes
       → Workable p.sizes (formula_at p i) points facts l
@@ -189,17 +179,20 @@ module _ (p : Policy) (proper : Proper p) (i : ℕ) (under : i < p.count) where
         bounded = proper.bounded i;
       }
 
-  pub next : (k : Knowledge) (at : ℕ) (old new row part run : List ℕ) → at ≡ i * p.sizes.minutes → p.count * p.sizes.minutes ≤ length new
-      → Over (cell p k) 0 at old new
+  pub next : (k : Knowledge) (old new row run : List ℕ) → p.count * p.sizes.minutes ≤ length new → p.sizes.minutes ≤ length row
+      → Over (cell p k) 0 (i * p.sizes.minutes) old new
       → Row p.sizes.minutes (meaning three (world p.sizes k) (value p k) (abbreviation (formula_at p i))) row
-      → part ≡ take p.sizes.minutes (drop at new)
-      → Over (λ t. get_or row t 0) 0 (length part) part run
-      → Over (cell p k) 0 (at + p.sizes.minutes) old (take at new ++ (run ++ drop (at + p.sizes.minutes) new))
-  next k at old new row part run here room o r e w =
+      → run ≡ take p.sizes.minutes row
+      → Over (cell p k) 0 ((i + 1) * p.sizes.minutes) old (put_mid (i * p.sizes.minutes) (i * p.sizes.minutes + p.sizes.minutes - i * p.sizes.minutes) new run)
+  next k old new row run room long o r e =
       let m = p.sizes.minutes in
+      let at = i * m in
       let fits : at + m ≤ length new = omega (arith, next_row p.count m i under) in
-      let long : length part ≡ m = ap length e ∙ length-take-le m (drop at new) (simp length-drop (omega arith)) in
+      let end : at + m ≡ (i + 1) * m = omega arith in
+      let written =
       two (cell p k) (cell p k) 0 at (at + m) old new (take at new ++ (run ++ drop (at + m) new)) o
-      (put_in (cell p k) at m new run fits (w.long ∙ long)
-      (λ t h. w.inside t (omega arith) (omega arith) ∙ row_cells p k proper.earlier i row r t h ∙ ap (λ (j : ℕ). cell p k (j + t)) (sym here)))
-      (omega arith) (omega arith) (λ j a b. refl)
+      (put_in (cell p k) at m new run fits (ap length e ∙ length-take-le m row long)
+      (λ t h. ap (λ (l : List ℕ). get_or l t 0) e ∙ get_or-take m row t 0 h ∙ row_cells p k proper.earlier i row r t h))
+      (omega arith) (omega arith) (λ j a b. refl) in
+      subst (λ (n : ℕ). Over (cell p k) 0 n old (put_mid at (at + m - at) new run)) end
+      (subst (λ (l : List ℕ). Over (cell p k) 0 (at + m) old l) (given_back at m new run) written)

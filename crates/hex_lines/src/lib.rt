@@ -2,86 +2,132 @@
 // first. A byte past a line's end is 0.
 #![tactic(auto)]
 
-ghost use Rattle.std.specs.Prelude.{◌+◌, ◌≤◌, ◌<◌, length};
+mod lines;
+mod show;
+
+ghost use Rattle.std.specs.Prelude.{◌≡◌, ℕ, ◌+◌, ◌*◌, ◌≤◌, ◌<◌, List, length, min, drop, slice_index, slice_index_or};
+ghost use Rattle.std.specs.Iterator.{YieldsFirst, item_count};
+ghost use Rattle.hex_lines.specs.Hex.{digit_of, bytes_of};
+
+pub use lines::{each_line, echo_lines};
+pub use show::{Hex, Listed, joined, kept, spaced};
+
+// The bytes of a line that are still to be read.
+#[derive(Clone, Copy)]
+pub struct Bytes<'a> {
+    rest: &'a [u8],
+}
+
+// A number of one or more bytes, as it stands in a line. Those that a line lacks are 0.
+pub trait Number: Copy {
+    ghost width: { ℕ };
+
+    ghost first: { List ℕ → Self };
+
+    fn read(bytes: &mut Bytes<'_>) -> Self
+        ensures value { result ≡ first (bytes_of bytes.old.rest.now) }
+        ensures rest { bytes_of bytes.new.rest.now ≡ drop width (bytes_of bytes.old.rest.now) };
+}
+
+impl Number for u8 {
+    ghost width = { 1 };
+
+    ghost first = { λ bytes. slice_index bytes 0 };
+
+    fn read(bytes: &mut Bytes<'_>) -> u8 {
+        bytes.next().unwrap_or(0)
+    }
+}
+
+impl Number for u16 {
+    ghost width = { 2 };
+
+    ghost first = { λ bytes. slice_index bytes 0 + 256 * slice_index bytes 1 };
+
+    fn read(bytes: &mut Bytes<'_>) -> u16 {
+        u16::from_le_bytes([u8::read(bytes), u8::read(bytes)])
+    }
+}
+
+impl Number for u32 {
+    ghost width = { 4 };
+
+    ghost first = { λ bytes. slice_index bytes 0 + 256 * (slice_index bytes 1 + 256 * (slice_index bytes 2 + 256 * slice_index bytes 3)) };
+
+    fn read(bytes: &mut Bytes<'_>) -> u32 {
+        u32::from_le_bytes([
+            u8::read(bytes),
+            u8::read(bytes),
+            u8::read(bytes),
+            u8::read(bytes),
+        ])
+    }
+}
 
 // The value of a hexadecimal digit.
 fn digit(c: u8) -> u8
-    ensures { result < 16 }
+    ensures below { result < 16 }
+    ensures value { result ≡ digit_of c }
 {
     if c < b'A' {
-        return c % 16;
-    }
-    (c - b'A' + 10) % 16
-}
-
-// Byte k of a line.
-pub fn byte_at(line: &[u8], k: usize) -> u8
-    requires { k < 20000 }
-{
-    if line.len() < 3 * k + 2 {
-        return 0;
-    }
-    digit(line[3 * k]) * 16 + digit(line[3 * k + 1])
-}
-
-// The number of 2 bytes from byte k on.
-pub fn word_at(line: &[u8], k: usize) -> u16
-    requires { k < 19990 }
-{
-    byte_at(line, k) as u16 + byte_at(line, k + 1) as u16 * 256
-}
-
-// The number of 4 bytes from byte k on.
-pub fn wide_at(line: &[u8], k: usize) -> u32
-    requires { k < 19980 }
-{
-    word_at(line, k) as u32 + word_at(line, k + 2) as u32 * 65536
-}
-
-// Writes the bytes of a line from a place on to the start of a buffer, as far as both go, and answers how many.
-pub fn bytes_from(line: &[u8], from: usize, out: &mut [u8]) -> usize
-    requires { (from < 9000) × (length out.old ≤ 256) }
-    ensures { result ≤ length out.new }
-{
-    let total = (line.len() + 1) / 3;
-    let mut n = 0;
-    while n < out.len() && from + n < total {
-        out[n] = byte_at(line, from + n);
-        n += 1;
-    }
-    n
-}
-
-// Fills a buffer with the numbers of 2 bytes of a line from a place on.
-pub fn words_from(line: &[u8], from: usize, out: &mut [u16])
-    requires { (from < 9000) × (length out.old ≤ 2050) }
-{
-    let mut i = 0;
-    while i < out.len() {
-        out[i] = word_at(line, from + 2 * i);
-        i += 1;
+        c % 16
+    } else {
+        (c - b'A' + 10) % 16
     }
 }
 
-// Fills a buffer with the numbers of 4 bytes of a line from a place on.
-pub fn wide_from(line: &[u8], from: usize, out: &mut [u32])
-    requires { (from < 9000) × (length out.old ≤ 2048) }
-{
-    let mut i = 0;
-    while i < out.len() {
-        out[i] = wide_at(line, from + 4 * i);
-        i += 1;
+impl Iterator for Bytes<'_> {
+    type Item = u8;
+
+    ghost next_gives = { YieldsFirst (λ b. bytes_of b.rest.now) };
+
+    ghost remaining = { item_count (λ b. bytes_of b.rest.now) };
+
+    fn next(&mut self) -> Option<u8> {
+        let (high, low, rest) = match self.rest {
+            [high, low] => (*high, *low, &[][..]),
+            [high, low, _, rest @ ..] => (*high, *low, rest),
+            _ => return None,
+        };
+        self.rest = rest;
+        Some(digit(high) * 16 + digit(low))
     }
 }
 
-// Where the line that starts at a place ends.
-pub fn line_end(text: &[u8], at: usize) -> usize
-    requires { at ≤ length text.now }
-    ensures { (at ≤ result) × (result ≤ length text.now) }
-{
-    let mut end = at;
-    while end < text.len() && text[end] != b'\n' {
-        end += 1;
+impl<'a> Bytes<'a> {
+    // All bytes of a line.
+    pub fn of(line: &'a [u8]) -> Bytes<'a>
+        ensures { result.rest.now ≡ line.now }
+    {
+        Bytes { rest: line }
     }
-    end
+
+    // The next number.
+    pub fn number<T: Number>(&mut self) -> T
+        ensures value { result ≡ T.first (bytes_of self.old.rest.now) }
+        ensures rest { bytes_of self.new.rest.now ≡ drop T.width (bytes_of self.old.rest.now) }
+    {
+        T::read(self)
+    }
+
+    // Fills a buffer with the next numbers.
+    pub fn fill<T: Number>(&mut self, out: &mut [T])
+        ensures numbers { (k : ℕ) (x : T) → k < length out.new → slice_index_or out.new k x ≡ T.first (drop (k * T.width) (bytes_of self.old.rest.now)) }
+        ensures rest { bytes_of self.new.rest.now ≡ drop (length out.new * T.width) (bytes_of self.old.rest.now) }
+    {
+        for number in out.iter_mut() {
+            *number = T::read(self);
+        }
+    }
+
+    // Writes the next bytes to the start of a buffer, as far as both go, and answers how many.
+    pub fn copy_to(&mut self, out: &mut [u8]) -> usize
+        ensures within { result ≤ length out.new }
+        ensures count { result ≡ min (length out.new) (length (bytes_of self.old.rest.now)) }
+        ensures bytes { (k : ℕ) → k < result → slice_index out.new k ≡ slice_index (bytes_of self.old.rest.now) k }
+    {
+        let n = out.len().min((self.rest.len() + 1) / 3);
+        self.fill(&mut out[..n]);
+        n
+    }
 }

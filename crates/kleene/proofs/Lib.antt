@@ -1,4 +1,3 @@
-pub mod Table
 pub mod Rank
 pub mod Tests
 pub mod Truth

@@ -6,14 +6,15 @@ ghost use Rattle.kleene.specs.Truth.{code_of, value_of, not3, or3, and3};
 ghost use Rattle.kleene.specs.Rank.{rank_of};
 ghost use Rattle.kleene.specs.Tests.{known_code, literal};
 
-// The codes.
+// The codes: numbers and no enum, since the lent work sheet holds them as bytes, and the table of or is indexed by two of them.
 pub const UNKNOWN: u8 = 0;
 
 pub const TRUE: u8 = 1;
 
 pub const FALSE: u8 = 2;
 
-// Ranks, a value's places in the order false < unknown < true: it surely is not, it may be, it surely is.
+// Ranks, a value's places in the order false < unknown < true: it surely is not, it may be, it surely is. Numbers and no enum: a row's own bytes
+// hold them before its codes, and a rank is compared with a threshold.
 pub const SURELY_NOT: u8 = 0;
 
 pub const MAY: u8 = 1;

@@ -7,7 +7,8 @@ use Rattle.knowledge.specs.Knowledge.{none, Knowledge, Sized, noted, valued, num
 use Rattle.knowledge.specs.Trace.{Trace, made, Admits}
 use Rattle.logic.proofs.Bools.{both, pair}
 use Rattle.policy.specs.declared.Sizes.{Sizes}
-use Rattle.message.specs.Fixes.{Message, FixesNumber, FixesFact, Fits}
+use Rattle.message.specs.Fixes.{FixesNumber, FixesFact, Fits}
+use Rattle.message.specs.declared.Message.{Message}
 use Rattle.knowledge.specs.Laws.{Limits}
 use Rattle.knowledge.proofs.Laws.{Free, free_law, sound_law}
 use Rattle.knowledge.specs.Store.{Fact}

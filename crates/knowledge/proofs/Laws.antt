@@ -8,7 +8,8 @@ use Rattle.decide.proofs.Laws.{same, itself, less, alike, both, implies, each, s
 use Rattle.policy.specs.declared.Sizes.{Sizes}
 use Rattle.message.specs.declared.Event.{Event}
 use Rattle.message.specs.declared.Event.TheVariants.{Observation, Alive}
-use Rattle.message.specs.Fixes.{Message, FixesNumber, FixesFact}
+use Rattle.message.specs.Fixes.{FixesNumber, FixesFact}
+use Rattle.message.specs.declared.Message.{Message}
 use Rattle.knowledge.specs.Knowledge.{none, word_sound, words_agree, Knowledge, noted, valued, number, Sound, KnownPoint, KnownNone, is_point, is_none, sound, free_event, free}
 use Rattle.knowledge.proofs.Runs.{steady_decides, level_decides, full_decides, free_place_decides}
 

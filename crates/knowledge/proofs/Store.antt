@@ -14,7 +14,8 @@ use Rattle.rows.proofs.Grid.{same_row, same_place, in_grid}
 use Rattle.policy.specs.declared.Sizes.{Sizes}
 use Rattle.message.specs.declared.Event.{Event}
 use Rattle.message.specs.declared.Event.TheVariants.{Observation, Alive}
-use Rattle.message.specs.Fixes.{Message, FixesNumber, FixesFact, Fits, FitsEvent}
+use Rattle.message.specs.Fixes.{FixesNumber, FixesFact, Fits, FitsEvent}
+use Rattle.message.specs.declared.Message.{Message}
 use Rattle.knowledge.proofs.Laws.{Free}
 use Rattle.knowledge.specs.Store.{Fact, FactCases}
 

@@ -10,7 +10,7 @@ use Rattle.mtl.specs.Reading.{World}
 use Rattle.policy.specs.declared.Sizes.{Sizes}
 use Rattle.message.specs.declared.Event.{Event}
 use Rattle.message.specs.declared.Event.TheVariants.{Observation, Alive}
-use Rattle.message.specs.Fixes.{Message}
+use Rattle.message.specs.declared.Message.{Message}
 use Rattle.knowledge.specs.Trace.{Trace, made}
 
 pub record Knowledge : Type 0 where

@@ -3,7 +3,7 @@ use Rattle.std.specs.Prelude.{ℕ, suc, ◌+◌, ◌-◌, ◌≤◌, ◌<◌, mi
 use Rattle.kleene.specs.Truth.{Truth, code_of, value_of, or3}
 use Rattle.policy.specs.declared.Sizes.{Sizes}
 use Rattle.message.specs.declared.Event.{Event}
-use Rattle.message.specs.Fixes.{Message}
+use Rattle.message.specs.declared.Message.{Message}
 use Rattle.knowledge.specs.declared.Found.{Found}
 use Rattle.knowledge.specs.Knowledge.{Knowledge, most_minutes, none, run_of, Steady, steady, level, full, says, free_place, point_known}
 

@@ -6,7 +6,8 @@ use Rattle.mtl.specs.Algebra.{two, any}
 use Rattle.mtl.specs.Reading.{World}
 use Rattle.mtl.specs.Textbook.{plain}
 use Rattle.policy.specs.declared.Sizes.{Sizes}
-use Rattle.message.specs.Fixes.{Message, FixesNumber, FixesFact}
+use Rattle.message.specs.Fixes.{FixesNumber, FixesFact}
+use Rattle.message.specs.declared.Message.{Message}
 
 pub record Trace (z : Sizes) : Type 0 where
   -- does the component (01: station) make an observation in the minute

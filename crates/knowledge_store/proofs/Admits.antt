@@ -12,7 +12,8 @@ use Rattle.decide.specs.Decide.{Decides}
 use Rattle.decide.proofs.Laws.{agree, same, both}
 use Rattle.policy.specs.declared.Sizes.{Sizes}
 use Rattle.message.specs.declared.Event.TheVariants.{Observation, Alive}
-use Rattle.message.specs.Fixes.{Message, FixesNumber, Fits}
+use Rattle.message.specs.Fixes.{FixesNumber, Fits}
+use Rattle.message.specs.declared.Message.{Message}
 use Rattle.knowledge.specs.Knowledge.{Steady, steady, free_place, words_agree, Knowledge, number, Sound, sound, Sized, stored, free, admits}
 use Rattle.knowledge.proofs.Laws.{Free, free_law, sound_law}
 use Rattle.knowledge.proofs.Store.{NumberCases, number_hit, number_either, stored_sound}

@@ -13,7 +13,7 @@ use Rattle.message.specs.Fixes.{Fits}
 use Rattle.knowledge.specs.Knowledge.{number, Sound, Sized, admits, Steady, words_agree}
 use Rattle.knowledge.specs.Run.{cell, held, sent, may, may_observe}
 use Rattle.knowledge.proofs.Runs.{runs_of}
-use Rattle.counter_runs.proofs.Parts.{part_long, part_is_steady, part_may}
+use Rattle.counter_runs.proofs.Parts.{IsRun, slice, part_is_steady, part_may}
 use Rattle.knowledge_store.proofs.Admits.{admits_observation, admits_alive}
 
 module _ (z : Sizes) (numbers facts : List ℕ) (long : Sized z (held numbers facts)) (clean : Sound z (held numbers facts)) (c : ℕ) (inside : c < z.components) where
@@ -26,15 +26,18 @@ module _ (z : Sizes) (numbers facts : List ℕ) (long : Sized z (held numbers fa
   start : at ≡ c * suc z.minutes
   start = ap (λ (x : ℕ). c * x) (add-one z.minutes)
 
+  own_run : IsRun numbers z.minutes c own
+  own_run = slice numbers z.minutes z.components c at long.numbers inside start
+
   pub own_long : length own ≡ suc z.minutes
-  own_long = part_long numbers z.minutes z.components c at long.numbers inside start
+  own_long = own_run.long
 
   pub own_steady : Steady (cell own) (length own)
-  own_steady = part_is_steady numbers z.minutes z.components c at long.numbers inside start (runs_of z (held numbers facts) clean c inside)
+  own_steady = part_is_steady own_run (runs_of z (held numbers facts) clean c inside)
 
   own_may : (p v : ℕ) → p < suc z.minutes → may (cell own) (length own) p v ≡ may (number z (held numbers facts) c) (suc z.minutes) p v
   unfolding number
-  own_may = part_may numbers z.minutes z.components c at long.numbers inside start
+  own_may = part_may own_run
 
   pub own_observation : (t n named values : ℕ) → Fits z (sent c (Observation t n named values))
       → (words_agree (get_or facts (2 * t) 0) (get_or facts (2 * t + 1) 0) named values && may_observe (cell own) (length own) t n)

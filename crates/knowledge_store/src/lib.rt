@@ -11,36 +11,30 @@ ghost use Rattle.message.specs.Fixes.{Fits};
 ghost use Rattle.knowledge.specs.Knowledge.{most_minutes, none, Steady, says, word_sound, words_agree};
 ghost use Rattle.knowledge.specs.Knowledge.{Sized, Sound, sound, admits, stored};
 ghost use Rattle.knowledge.specs.Laws.{Limits};
-ghost use Rattle.knowledge.specs.Run.{cell, held, sent, told, Codes, joined, may, may_observe, SteadyRuns, PointRow};
+ghost use Rattle.knowledge.specs.Run.{cell, held, told, Codes, joined, may, may_observe, SteadyRuns, PointRow};
 ghost use Rattle.knowledge.specs.Outwards.{full_gap};
 
 use counter_runs::{are_steady, is_full, may_store, search_outwards};
 use knowledge::Search;
-use message::Event;
-use policy::Sizes;
-
-// The most minutes that a policy may have.
-const MOST_MINUTES: usize = 1024;
+use message::{Event, Message};
+use policy::{MOST_MINUTES, Sizes};
 
 // What is told of the one minute between two neighbouring known places, joined to its code: quiet leaves it as it is, and else it is busy.
 fn merge_step(x: u8, level: bool) -> u8
     requires { x < 3 }
     ensures { result ≡ code_of (or3 (value_of x) (cond level false3 true3)) }
 {
-    if !level {
-        return 1;
-    }
-    x
+    if level { x } else { kleene::TRUE }
 }
 
 // What a longer gap that is not quiet tells of a minute, joined to its code: if the gap is full the minute is busy, and else it is so only if it was.
 fn merge_wide(x: u8, full: bool) -> u8
     ensures { result ≡ code_of (or3 (value_of x) (cond full true3 unknown)) }
 {
-    if (x != 1) & !full {
-        return 0;
+    if (x != kleene::TRUE) & !full {
+        return kleene::UNKNOWN;
     }
-    1
+    kleene::TRUE
 }
 
 // Joins the cells from lo up to hi with what such a gap tells of each of them.
@@ -48,21 +42,9 @@ fn join(row: &mut [u8; MOST_MINUTES], lo: usize, hi: usize, full: bool)
     requires { (lo ≤ hi) × (hi ≤ most_minutes) × (length row.old ≡ most_minutes) }
     ensures { Over (joined row.old (λ _. cond full true3 unknown)) lo hi row.old row.new }
 {
-    let mut i = lo;
-    while i < hi {
+    for i in lo..hi {
         row[i] = merge_wide(row[i], full);
-        i += 1;
     }
-}
-
-// The smaller of two.
-fn smaller(x: usize, y: usize) -> usize
-    ensures { result ≡ min x y }
-{
-    if x < y {
-        return x;
-    }
-    y
 }
 
 // Joins the cells of the gap that starts at a minute, as far as there are minutes, with what the search from there tells of each of them. Most
@@ -88,11 +70,11 @@ fn join_gap(row: &mut [u8; MOST_MINUTES], minute: usize, found: Search, minutes:
     if found.level {
         return;
     }
-    join(row, minute, smaller(found.after, minutes), is_full(found));
+    join(row, minute, found.after.min(minutes), is_full(found));
 }
 
 // Joins a row with what the run tells of each minute: one search for each gap, from its first minute, so that no place is read more than
-// twice. All minutes of a gap have one answer.
+// twice. All minutes of a gap have one answer. How far a turn goes is what its search finds, so no counted range fits.
 fn join_run(row: &mut [u8; MOST_MINUTES], run: &[u16])
     requires { (0 < length run.now)
         × (length run.now ≤ suc most_minutes)
@@ -115,10 +97,7 @@ fn join_run(row: &mut [u8; MOST_MINUTES], run: &[u16])
 fn is_word_sound(known: u32, values: u32, limit: usize) -> bool
     ensures { (p : ℕ) → limit ≡ 2 ^ p → result ≡ word_sound p known values }
 {
-    if known | values != known {
-        return false;
-    }
-    (known as usize) < limit
+    known | values == known && (known as usize) < limit
 }
 
 // Are the facts of every minute sound?
@@ -128,25 +107,19 @@ fn are_facts_sound(facts: &[u32], propositions: usize, minutes: usize) -> bool
         (λ t. word_sound propositions (get_or facts.now (2 * t) 0) (get_or facts.now (2 * t + 1) 0)) }
 {
     let limit = 1usize << propositions;
-    let mut t: usize = 0;
-    while t < minutes {
-        if !is_word_sound(facts[2 * t], facts[2 * t + 1], limit) {
-            return false;
-        }
-        t += 1;
-    }
-    true
+    facts
+        .chunks_exact(2)
+        .all(|words| is_word_sound(words[0], words[1], limit))
 }
 
-// Is the knowledge sound (01: the record is sound)?
+// Is the knowledge sound (01: the record is sound)? Its two parts come here and below as they are lent: a struct of `&mut` that is handed on whole
+// leaves its caller without what became of them.
 pub fn is_sound(sizes: Sizes, numbers: &[u16], facts: &[u32]) -> bool
     requires { Limits sizes × Sized sizes (held numbers.now facts.now) }
     ensures { result ≡ sound sizes (held numbers.now facts.now) }
 {
-    if !are_steady(numbers, sizes.components, sizes.minutes) {
-        return false;
-    }
-    are_facts_sound(facts, sizes.propositions, sizes.minutes)
+    are_steady(numbers, sizes.components, sizes.minutes)
+        && are_facts_sound(facts, sizes.propositions, sizes.minutes)
 }
 
 // No named proposition is known with another value.
@@ -164,10 +137,7 @@ fn may_observe(run: &[u16], minute: usize, number: u16) -> bool
         × (1 ≤ number) }
     ensures { result ≡ may_observe (cell run.now) (length run.now) minute number }
 {
-    if !may_store(run, minute + 1, number) {
-        return false;
-    }
-    may_store(run, minute, number - 1)
+    may_store(run, minute + 1, number) && may_store(run, minute, number - 1)
 }
 
 // Does an observation go with its component's run and with its minute's facts?
@@ -188,43 +158,28 @@ fn admits_observation(
         ≡ (words_agree (get_or facts.now (2 * minute) 0) (get_or facts.now (2 * minute + 1) 0) named values
         && may_observe (cell run.now) (length run.now) minute number) }
 {
-    if !do_words_agree(facts[2 * minute], facts[2 * minute + 1], named, values) {
-        return false;
-    }
-    may_observe(run, minute, number)
+    do_words_agree(facts[2 * minute], facts[2 * minute + 1], named, values)
+        && may_observe(run, minute, number)
 }
 
 // Does the message go with the knowledge, or is it a conflict (01: clash)?
-pub fn admits_message(
-    sizes: Sizes,
-    numbers: &[u16],
-    facts: &[u32],
-    component: usize,
-    event: Event,
-) -> bool
+pub fn admits_message(sizes: Sizes, numbers: &[u16], facts: &[u32], message: Message) -> bool
     requires { Limits sizes
         × Sized sizes (held numbers.now facts.now)
         × Sound sizes (held numbers.now facts.now)
-        × Fits sizes (sent component event) }
-    ensures { result ≡ admits sizes (held numbers.now facts.now) (sent component event) }
+        × Fits sizes message }
+    ensures { result ≡ admits sizes (held numbers.now facts.now) message }
 {
-    let at = component * (sizes.minutes + 1);
-    let end = at + (sizes.minutes + 1);
-    match event {
+    let at = message.component * (sizes.minutes + 1);
+    let run = &numbers[at..at + (sizes.minutes + 1)];
+    match message.event {
         Event::Observation {
             minute,
             number,
             named,
             values,
-        } => admits_observation(
-            &numbers[at..end],
-            facts,
-            minute as usize,
-            number,
-            named,
-            values,
-        ),
-        Event::Alive { minute, number } => may_store(&numbers[at..end], minute as usize, number),
+        } => admits_observation(run, facts, minute as usize, number, named, values),
+        Event::Alive { minute, number } => may_store(run, minute as usize, number),
     }
 }
 
@@ -244,10 +199,8 @@ fn store_facts(facts: &mut [u32], place: usize, named: u32, values: u32)
         (set facts.old place (bit_or (get_or facts.old place 0) named))
         (place + 1) (bit_or (get_or facts.old (place + 1) 0) values) }
 {
-    let known = facts[place];
-    let old = facts[place + 1];
-    facts[place] = known | named;
-    facts[place + 1] = old | values;
+    facts[place] |= named;
+    facts[place + 1] |= values;
 }
 
 // A fresh sequence number: at the first place of a run it is 0, and else not known.
@@ -263,10 +216,8 @@ pub fn clear_numbers(numbers: &mut [u16], minutes: usize)
     ensures { numbers.new
         ≡ table (length numbers.old) (λ i. cond (eqb (i % (minutes + 1)) 0) 0 none) }
 {
-    let mut i = 0;
-    while i < numbers.len() {
-        numbers[i] = fresh_number(i % (minutes + 1));
-        i += 1;
+    for (i, number) in numbers.iter_mut().enumerate() {
+        *number = fresh_number(i % (minutes + 1));
     }
 }
 
@@ -274,23 +225,17 @@ pub fn clear_numbers(numbers: &mut [u16], minutes: usize)
 pub fn clear_facts(facts: &mut [u32])
     ensures { facts.new ≡ replicate (length facts.old) 0 }
 {
-    let mut i = 0;
-    while i < facts.len() {
-        facts[i] = 0;
-        i += 1;
-    }
+    facts.fill(0);
 }
 
 // Stores what the message fixes, and nothing else.
-pub fn store(sizes: Sizes, numbers: &mut [u16], facts: &mut [u32], component: usize, event: Event)
-    requires { Limits sizes × Sized sizes (held numbers.old facts.old) × Fits sizes (sent component event) }
-    ensures stores_numbers { numbers.new
-        ≡ (stored sizes (held numbers.old facts.old) (sent component event)).numbers }
-    ensures stores_facts { facts.new
-        ≡ (stored sizes (held numbers.old facts.old) (sent component event)).facts }
+pub fn store(sizes: Sizes, numbers: &mut [u16], facts: &mut [u32], message: Message)
+    requires { Limits sizes × Sized sizes (held numbers.old facts.old) × Fits sizes message }
+    ensures stores_numbers { numbers.new ≡ (stored sizes (held numbers.old facts.old) message).numbers }
+    ensures stores_facts { facts.new ≡ (stored sizes (held numbers.old facts.old) message).facts }
 {
-    let at = component * (sizes.minutes + 1);
-    match event {
+    let at = message.component * (sizes.minutes + 1);
+    match message.event {
         Event::Observation {
             minute,
             number,
@@ -307,18 +252,6 @@ pub fn store(sizes: Sizes, numbers: &mut [u16], facts: &mut [u32], component: us
     }
 }
 
-// Fills the cells below m with "false".
-fn fill(row: &mut [u8; MOST_MINUTES], m: usize)
-    requires { (m ≤ most_minutes) × (length row.old ≡ most_minutes) }
-    ensures { Over (λ i. 2) 0 m row.old row.new }
-{
-    let mut i = 0;
-    while i < m {
-        row[i] = 2;
-        i += 1;
-    }
-}
-
 // Which minutes are time points (01: busy, quiet or open), as truth codes; the cells past the last minute are 0.
 pub fn point_row(sizes: Sizes, numbers: &[u16]) -> [u8; MOST_MINUTES]
     requires { (sizes.minutes ≤ most_minutes)
@@ -326,17 +259,10 @@ pub fn point_row(sizes: Sizes, numbers: &[u16]) -> [u8; MOST_MINUTES]
         × SteadyRuns sizes numbers.now }
     ensures { PointRow sizes numbers.now result }
 {
-    let components = sizes.components;
-    let minutes = sizes.minutes;
     let mut row = [0u8; MOST_MINUTES];
-    fill(&mut row, minutes);
-    let mut c: usize = 0;
-    let mut at: usize = 0;
-    while c < components {
-        let end = at + (minutes + 1);
-        join_run(&mut row, &numbers[at..end]);
-        at = end;
-        c += 1;
+    row[..sizes.minutes].fill(kleene::FALSE);
+    for run in numbers.chunks_exact(sizes.minutes + 1) {
+        join_run(&mut row, run);
     }
     row
 }

@@ -5,16 +5,15 @@
 ghost use Rattle.std.specs.Prelude.{◌≡◌, ◌<◌, length};
 ghost use Rattle.line_table.specs.Table.{line_at, lines_from, set_line};
 
-use policy::LineNumbers;
+use policy::{LineNumbers, MOST_LINES};
+use std::array;
 
-// How many lines there are, how many numbers each has, and how many that makes.
-pub const LINES: usize = 64;
-
+// How many numbers each line has, and how many that makes: written out, for an array's length is no computed constant.
 const PER_LINE: usize = 6;
 
 pub const NUMBERS: usize = 384;
 
-// The six numbers of line i.
+// The six numbers of line i. No From: they are a part of one array, as C lends it.
 fn line_at(fields: &[u16; NUMBERS], i: usize) -> LineNumbers
     requires { i < 64 }
     ensures { result ≡ line_at fields.now i }
@@ -31,25 +30,10 @@ fn line_at(fields: &[u16; NUMBERS], i: usize) -> LineNumbers
 }
 
 // The numbers of 64 lines.
-pub fn lines_from(fields: &[u16; NUMBERS]) -> [LineNumbers; LINES]
+pub fn lines_from(fields: &[u16; NUMBERS]) -> [LineNumbers; MOST_LINES]
     ensures { result ≡ lines_from fields.now 64 }
 {
-    let none = LineNumbers {
-        kind: 0,
-        first: 0,
-        second: 0,
-        lower: 0,
-        upper: 0,
-        rule: false,
-    };
-    let mut lines = [none; LINES];
-    let mut i = 0;
-    while i < LINES {
-        let line = line_at(fields, i);
-        lines[i] = line;
-        i += 1;
-    }
-    lines
+    array::from_fn(|i| line_at(fields, i))
 }
 
 // Stores line i.

@@ -1,6 +1,6 @@
 -- What a message says hangs on its own bytes alone: so the first message of a packet says what it says alone, and a packet is made of just one list of
 -- byte strings.
-use Rattle.std.specs.Prelude.{ℕ, zero, suc, ◌+◌, ◌-◌, ◌≤◌, ◌<◌, ◌≡◌, Bool, List, [], ◌∷◌, ◌++◌, ltb, take, drop, get_or}
+use Rattle.std.specs.Prelude.{ℕ, zero, suc, ◌+◌, ◌-◌, ◌≤◌, ◌<◌, ◌≡◌, Bool, List, [], ◌∷◌, ◌++◌, ltb, take, drop, get_or, Err, Ok}
 use Rattle.std.proofs.Common.{add-zero, arith, sym, ap₂, subst, ◌∙◌, length-append, length-drop, take-append-drop, drop_of_length-le, get_or-take, take_all, length-take-le, ltb-true, leb-true, leb-false, le-leb}
 use Rattle.std.proofs.Math.Decide.{dec_le}
 use Rattle.std.proofs.Math.Path.{refl, ap}
@@ -11,12 +11,12 @@ use Rattle.std.proofs.lemmas.Bool.{lt-leb}
 use Rattle.encoding.specs.Fields.{has, size, field8}
 use Rattle.encoding.specs.Layout.{value_at}
 use Rattle.refusal.specs.declared.Refusal.TheVariants.{TruncatedMessage, BadMessage}
-use Rattle.refusal.specs.declared.Answer.{Answer}
-use Rattle.refusal.specs.declared.Answer.TheVariants.{Accepted, Refused}
-use Rattle.refusal.specs.Checks.{Refuses, here, there, Passed, pass, none}
+use Rattle.refusal.specs.Checks.{Checked}
+use Rattle.refusal.specs.Checks.{give_unless, Refuses, here, there, Passed, pass, none}
 use Rattle.refusal.proofs.Laws.{refusal_law, passing_law}
 use Rattle.policy.specs.declared.Sizes.{Sizes}
-use Rattle.message.specs.Format.{map_of, minute_at, number_at, named_at, values_at, component_of, minute_of, number_of, named_of, packed_at, packed_of, value_bytes, fields_of, length_of, good_fields, good_message, accepted_with, refused_with, with_answer, decode_of, first_checks, first_answer, first_of, used_of, rest_of, messages_within, messages_of}
+use Rattle.message.specs.declared.Fields.{Fields}
+use Rattle.message.specs.Format.{map_of, minute_at, number_at, named_at, values_at, component_of, minute_of, number_of, named_of, packed_at, packed_of, value_bytes, fields_of, length_of, good_fields, good_message, message_in, decode_of, first_checks, first_answer, first_of, used_of, rest_of, messages_within, messages_of}
 use Rattle.message.specs.Encoded.{IsMessage}
 use Rattle.message.specs.Packet.{FirstCauses, Single, Packed, no_more, whole, cut}
 use Rattle.message.specs.Proper.{extra, early}
@@ -118,20 +118,20 @@ module _ (s : List ℕ) (h : length_of s ≤ length s) where
   first_fields = same_fields s first first_same
 
 module _ (z : Sizes) (s : List ℕ) where
-  pub answered : (a : Answer) → first_answer z s ≡ a → first_of z s ≡ with_answer a s
+  pub answered : (a : Checked) → first_answer z s ≡ a → first_of z s ≡ give_unless a (message_in (fields_of s))
   unfolding first_of
-  answered a e = ap (λ (x : Answer). with_answer x s) e
+  answered a e = ap (λ (x : Checked). give_unless x (message_in (fields_of s))) e
 
-  pub answer_early : length s < length_of s → first_answer z s ≡ Refused (TruncatedMessage (length s))
+  pub answer_early : length s < length_of s → first_answer z s ≡ Err (TruncatedMessage (length s))
   unfolding first_answer
   answer_early h = (refusal_law (first_checks z s) (TruncatedMessage (length s))).1 (here (lt-leb _ _ h))
 
   module _ (h : length_of s ≤ length s) where
-    pub answer_bad : good_message z s ≡ false → first_answer z s ≡ Refused BadMessage
+    pub answer_bad : good_message z s ≡ false → first_answer z s ≡ Err BadMessage
     unfolding first_answer
     answer_bad g = (refusal_law (first_checks z s) BadMessage).1 (there (le-leb _ _ h) (here g))
 
-    pub answer_good : good_message z s ≡ true → first_answer z s ≡ Accepted
+    pub answer_good : good_message z s ≡ true → first_answer z s ≡ Ok tt
     unfolding first_answer
     answer_good g = (passing_law (first_checks z s)).1 (pass (le-leb _ _ h) (pass g none))
 
@@ -144,11 +144,11 @@ module _ (z : Sizes) (s : List ℕ) where
       where
         go : (b : Bool) → good_message z s ≡ b → first_of z s ≡ decode_of z (take (length_of s) s)
         go true g =
-            answered Accepted (answer_good g) ∙ ap accepted_with (sym (first_fields s h))
-            ∙ sym (decodes z (take (length_of s) s) Accepted (takes z (take (length_of s) s) (first_length s h) (good_alone ∙ g)))
+            answered (Ok tt) (answer_good g) ∙ ap (λ (f : Fields). Ok (message_in f)) (sym (first_fields s h))
+            ∙ sym (decodes z (take (length_of s) s) (Ok tt) (takes z (take (length_of s) s) (first_length s h) (good_alone ∙ g)))
         go false g =
-            answered (Refused BadMessage) (answer_bad g)
-            ∙ sym (decodes z (take (length_of s) s) (Refused BadMessage) (refuses z (take (length_of s) s) (first_length s h) (good_alone ∙ g)))
+            answered (Err BadMessage) (answer_bad g)
+            ∙ sym (decodes z (take (length_of s) s) (Err BadMessage) (refuses z (take (length_of s) s) (first_length s h) (good_alone ∙ g)))
 
     whole_rest : take (length_of s) s ++ rest_of s ≡ s
     whole_rest = rw (used_whole s h) (take-append-drop (length_of s) s)
@@ -159,8 +159,8 @@ module _ (z : Sizes) (s : List ℕ) where
 
     alone_early : first_of z s ≡ decode_of z (take (used_of s) s)
     alone_early =
-        answered (Refused (TruncatedMessage (length s))) (answer_early h)
-        ∙ sym (decodes z s (Refused (TruncatedMessage (length s))) (refused_cut z s (length s) (early h)))
+        answered (Err (TruncatedMessage (length s))) (answer_early h)
+        ∙ sym (decodes z s (Err (TruncatedMessage (length s))) (refused_cut z s (length s) (early h)))
         ∙ ap (decode_of z) (sym (take_all (used_of s) s (omega (arith, used_early s h))))
 
   pub alone : first_of z s ≡ decode_of z (take (used_of s) s)
@@ -196,7 +196,7 @@ module _ (z : Sizes) (s : List ℕ) where
   first_causes = record {
     seven = λ at. (
       λ e. seven_told at ((refusal_law (first_checks z s) (TruncatedMessage at)).0 e),
-      λ q. answer_early q.1 ∙ ap (λ (n : ℕ). Refused (TruncatedMessage n)) (sym q.0),
+      λ q. answer_early q.1 ∙ ap (λ (n : ℕ). Err (TruncatedMessage n)) (sym q.0),
     );
     seven_rest = early_rest;
     eight = (
@@ -213,7 +213,7 @@ module _ (z : Sizes) (s : List ℕ) where
     alone = alone;
   }
     where
-      bad : (h : length_of s ≤ length s) → (IsMessage z (take (length_of s) s) → ⊥) → (b : Bool) → good_message z s ≡ b → first_answer z s ≡ Refused BadMessage
+      bad : (h : length_of s ≤ length s) → (IsMessage z (take (length_of s) s) → ⊥) → (b : Bool) → good_message z s ≡ b → first_answer z s ≡ Err BadMessage
       bad h n true g = absurd (n (is_good h g))
       bad h n false g = answer_bad h g
 
@@ -228,8 +228,8 @@ module _ (z : Sizes) (s : List ℕ) where
     followed = λ l. either s _ (λ h. more h l) (λ h. absurd (omega (arith, l, ap length (early_rest h))));
   }
     where
-      more : length_of s ≤ length s → 0 < length (rest_of s) → decode_of z s ≡ refused_with (TruncatedMessage (length_of s))
-      more h l = decodes z s (Refused (TruncatedMessage (length_of s))) (refused_cut z s (length_of s) (extra (omega (arith, l, length-drop (used_of s) s, used_whole s h))))
+      more : length_of s ≤ length s → 0 < length (rest_of s) → decode_of z s ≡ Err (TruncatedMessage (length_of s))
+      more h l = decodes z s (Err (TruncatedMessage (length_of s))) (refused_cut z s (length_of s) (extra (omega (arith, l, length-drop (used_of s) s, used_whole s h))))
 
 -- ---- the byte strings of a packet
 

@@ -1,17 +1,16 @@
 -- What the message reader's answers mean: each has its own cause, and a well_formed message has the ranges that its policy gives.
-use Rattle.std.specs.Prelude.{ℕ, ◌^◌, ◌≤◌, ◌<◌, ◌≡◌, refl, Bool, true, false, List, length}
+use Rattle.std.specs.Prelude.{ℕ, ◌^◌, ◌≤◌, ◌<◌, ◌≡◌, refl, Bool, true, false, List, length, Err, Ok}
 use Rattle.std.proofs.Common.{arith, sym, ap, ◌∙◌, true≢false, pow_mono, leb-true, leb-false, eqb-true, le-leb, ne_eqb}
 use Rattle.std.proofs.lemmas.Bool.{eqb-false, lt-leb}
 use Rattle.bits.specs.Bits.{bit}
 use Rattle.bits.proofs.Masks.{bits_below}
 use Rattle.refusal.specs.declared.Refusal.TheVariants.{TruncatedMessage, BadMessage}
-use Rattle.refusal.specs.declared.Answer.{Answer}
-use Rattle.refusal.specs.declared.Answer.TheVariants.{Accepted, Refused}
+use Rattle.refusal.specs.Checks.{Checked, give_unless, reply}
 use Rattle.refusal.specs.Checks.{Refuses, here, there}
-use Rattle.refusal.proofs.Laws.{not_accepted, refusal_law}
+use Rattle.refusal.proofs.Laws.{replied, not_accepted, refusal_law}
 use Rattle.policy.specs.declared.Sizes.{Sizes}
 use Rattle.message.specs.declared.Event.{Event}
-use Rattle.message.specs.Format.{length_of, good_message, fields_of, message_checks, answer_of, with_answer, decode_of}
+use Rattle.message.specs.Format.{length_of, good_message, fields_of, message_checks, answer_of, message_in, decode_of}
 use Rattle.message.specs.Encoded.{IsEvent, is_observation, is_alive, IsMessage}
 use Rattle.message.specs.Fixes.{WellFormed, meaning_of, FitsEvent, Fits}
 use Rattle.message.specs.Proper.{Cut, early, extra, Causes}
@@ -31,7 +30,7 @@ module _ (z : Sizes) (s : List ℕ) where
   uncut (early h) = here (lt-leb _ _ h)
   uncut (extra h) = there (le-leb (length_of s) (length s) (omega arith)) (here (ne_eqb (length_of s) (length s) (λ e. omega arith)))
 
-  pub refused_cut : (at : ℕ) → Cut s at → answer_of z s ≡ Refused (TruncatedMessage at)
+  pub refused_cut : (at : ℕ) → Cut s at → answer_of z s ≡ Err (TruncatedMessage at)
   unfolding answer_of
   refused_cut at c = (refusal_law (message_checks z s) (TruncatedMessage at)).1 (uncut c)
 
@@ -40,10 +39,10 @@ module _ (z : Sizes) (s : List ℕ) where
   broken (there p (there q (there _ x16))) = elim x16 [ ]
   broken (there p (there q (here g))) = sym (eqb-true _ _ q)
 
-  refused_bad : length s ≡ length_of s → (IsMessage z s → ⊥) → answer_of z s ≡ Refused BadMessage
+  refused_bad : length s ≡ length_of s → (IsMessage z s → ⊥) → answer_of z s ≡ Err BadMessage
   refused_bad e other = go (good_message z s) refl
     where
-      go : (b : Bool) → good_message z s ≡ b → answer_of z s ≡ Refused BadMessage
+      go : (b : Bool) → good_message z s ≡ b → answer_of z s ≡ Err BadMessage
       go true g = absurd (other ((accepts z s).0 (takes z s e g)))
       go false g = refuses z s e g
 
@@ -60,22 +59,17 @@ module _ (z : Sizes) (s : List ℕ) where
 
 -- ---- what is decoded
 
-pub decodes : (z : Sizes) (s : List ℕ) (a : Answer) → answer_of z s ≡ a → decode_of z s ≡ with_answer a s
+pub decodes : (z : Sizes) (s : List ℕ) (a : Checked) → answer_of z s ≡ a → decode_of z s ≡ give_unless a (message_in (fields_of s))
 unfolding decode_of
-decodes z s a e = ap (λ (x : Answer). with_answer x s) e
+decodes z s a e = ap (λ (x : Checked). give_unless x (message_in (fields_of s))) e
 
-pub decoded : (z : Sizes) (s : List ℕ) → WellFormed z s
-    → decode_of z s ≡ record { answer = Accepted; component = (meaning_of s).component; event = (meaning_of s).event }
+pub decoded : (z : Sizes) (s : List ℕ) → WellFormed z s → decode_of z s ≡ Ok (meaning_of s)
 unfolding decode_of meaning_of fields_of
-decoded z s w = ap (λ (a : Answer). with_answer a s) w
+decoded z s w = ap (λ (a : Checked). give_unless a (message_in (fields_of s))) w
 
-pub decoded_answer : (z : Sizes) (s : List ℕ) → (decode_of z s).answer ≡ answer_of z s
+pub decoded_answer : (z : Sizes) (s : List ℕ) → reply (decode_of z s) ≡ answer_of z s
 unfolding decode_of
-decoded_answer z s = go (answer_of z s)
-  where
-    go : (a : Answer) → (with_answer a s).answer ≡ a
-    go Accepted = refl
-    go (Refused r) = refl
+decoded_answer z s = replied (answer_of z s) (message_in (fields_of s))
 
 -- ---- the ranges of a well_formed message
 

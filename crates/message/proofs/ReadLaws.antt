@@ -1,7 +1,7 @@
 -- The reader takes just the bytes that are a message (`accepts`), and what it reads is what stands in them (`reads`).
 use Prim.Native.Nat.{ℕ, zero, suc, ◌+◌, ◌^◌, ◌≤◌, ◌<◌}
 use Rattle.std.proofs.Common.{arith, add-zero, ◌∙◌}
-use Rattle.std.specs.Prelude.{◌≡◌, refl, Bool, ◌↔◌, List, [], ◌∷◌, eqb, ltb, leb, get_or, length}
+use Rattle.std.specs.Prelude.{◌≡◌, refl, Bool, ◌↔◌, List, [], ◌∷◌, eqb, ltb, leb, get_or, length, Err, Ok}
 use Rattle.std.proofs.Math.Path.{sym, ap, ap₂, subst, fun_ext}
 use Rattle.std.proofs.Math.Bool.{true, false, cond}
 use borrow.Author.Tests.{ltb-true, lt-ltb, leb-true, le-leb, eqb-true, eq-eqb}
@@ -13,7 +13,6 @@ use Rattle.encoding.specs.Fields.{has, written}
 use Rattle.encoding.specs.Layout.{bytes_at, field, Laid}
 use Rattle.encoding.proofs.Laws.{laid_start, laid_field, laid_written, fields_laid}
 use Rattle.refusal.specs.declared.Refusal.TheVariants.{BadMessage}
-use Rattle.refusal.specs.declared.Answer.TheVariants.{Accepted, Refused}
 use Rattle.refusal.specs.Checks.{Passed, none, pass, here, there}
 use Rattle.refusal.proofs.Laws.{refusal_law, passing_law}
 use Rattle.policy.specs.declared.Sizes.{Sizes}
@@ -22,7 +21,8 @@ use Rattle.message.specs.declared.Event.{Event}
 use Rattle.message.specs.declared.Event.TheVariants.{Observation}
 use Rattle.message.specs.Format.{widths, map_of, values_at, component_of, minute_of, number_of, named_of, value_bytes, packed_at, packed_of, fields_of, length_of, good_alive, good_observation, all_written, good_fields, good_message, message_checks, answer_of, event_if, event_in}
 use Rattle.message.specs.Encoded.{Values, IsEvent, is_observation, is_alive, is_alive_event, IsMessage}
-use Rattle.message.specs.Fixes.{Message, meaning_of}
+use Rattle.message.specs.Fixes.{meaning_of}
+use Rattle.message.specs.declared.Message.{Message}
 
 -- ---- the fields
 
@@ -159,7 +159,7 @@ module _ (z : Sizes) where
 -- ---- the checks
 
 module _ (z : Sizes) (s : List ℕ) where
-  pub kept : answer_of z s ≡ Accepted → (length s ≡ length_of s) × (good_message z s ≡ true)
+  pub kept : answer_of z s ≡ Ok tt → (length s ≡ length_of s) × (good_message z s ≡ true)
   unfolding answer_of
   kept e = go ((passing_law (message_checks z s)).0 e)
     where
@@ -173,17 +173,17 @@ module _ (z : Sizes) (s : List ℕ) where
     extra_passed : eqb (length_of s) (length s) ≡ true
     extra_passed = eq-eqb (length_of s) (length s) (sym e)
 
-    pub refuses : good_message z s ≡ false → answer_of z s ≡ Refused BadMessage
+    pub refuses : good_message z s ≡ false → answer_of z s ≡ Err BadMessage
     unfolding answer_of
     refuses g = (refusal_law (message_checks z s) BadMessage).1 (there early_passed (there extra_passed (here g)))
 
-    pub takes : good_message z s ≡ true → answer_of z s ≡ Accepted
+    pub takes : good_message z s ≡ true → answer_of z s ≡ Ok tt
     unfolding answer_of
     takes g = (passing_law (message_checks z s)).1 (pass early_passed (pass extra_passed (pass g none)))
 
   -- ---- the theorem
 
-  is_message : answer_of z s ≡ Accepted → IsMessage z s
+  is_message : answer_of z s ≡ Ok tt → IsMessage z s
   unfolding good_fields fields_of length_of packed_of
   is_message e =
       let k = kept e in
@@ -253,7 +253,7 @@ module _ (z : Sizes) (s : List ℕ) where
     unfolding length_of
     whole = m.ends ∙ sym (ap₂ (λ (n at : ℕ). at + value_bytes n) named_read values_behind)
 
-    accepted : answer_of z s ≡ Accepted
+    accepted : answer_of z s ≡ Ok tt
     accepted = takes whole (ap (good_fields z) fields_read ∙ good.rules)
 
     -- what is read is what stands there
@@ -268,5 +268,5 @@ module _ (z : Sizes) (s : List ℕ) where
         says f = message f.component (event_in f)
 
   -- "A slip that neither 7 nor 8 turns away": just the messages
-  pub accepts : (answer_of z s ≡ Accepted) ↔ IsMessage z s
+  pub accepts : (answer_of z s ≡ Ok tt) ↔ IsMessage z s
   accepts = (is_message, accepted)

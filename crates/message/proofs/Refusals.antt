@@ -1,5 +1,5 @@
 -- The writer refuses each number for its own cause: its tests say what 01 says of the numbers. Assumes nothing.
-use Rattle.std.specs.Prelude.{ℕ, ◌^◌, ◌≤◌, ◌<◌, ◌≡◌, Bool, false, ◌⊎◌, ◌↔◌, List, ltb, leb, eqb}
+use Rattle.std.specs.Prelude.{ℕ, ◌^◌, ◌≤◌, ◌<◌, ◌≡◌, Bool, false, ◌⊎◌, ◌↔◌, List, ltb, leb, eqb, Ok}
 use Rattle.std.proofs.Common.{arith, sym, subst}
 use Rattle.std.proofs.Math.Path.{refl}
 use Rattle.std.proofs.Math.Bool.{true, cond}
@@ -10,11 +10,9 @@ use Rattle.logic.proofs.Bools.{both, pair}
 use Rattle.bits.proofs.Masks.{bits_below, or_among}
 use Rattle.refusal.specs.declared.Refusal.{Refusal}
 use Rattle.refusal.specs.declared.Refusal.TheVariants.{BadMessage, ShortBuffer}
-use Rattle.refusal.specs.declared.Answer.TheVariants.{Accepted}
 use Rattle.refusal.specs.Numbers.{refusal_number}
-use Rattle.refusal.specs.Checks.{Check, first_failed, Passed, none, pass, Refuses, here, there, RefusedWith}
+use Rattle.refusal.specs.Checks.{Check, first_failed, Passed, none, pass, Refuses, here, there, RefusedWith, reply}
 use Rattle.refusal.proofs.Laws.{number_law, passing_law, refused_where}
-use Rattle.refusal.specs.Writes.{reply}
 use Rattle.refusal.proofs.Writes.{alike, told, kept_rest, unwritten}
 use Rattle.policy.specs.declared.Sizes.{Sizes}
 use Rattle.policy.specs.Format.{policy_checks, policy_of}
@@ -130,11 +128,11 @@ module _ (s : List ℕ) (n : MessageNumbers) (out : List ℕ) where
       go (inl f) = inl (policy_refuses s r f)
       go (inr f) = inr (later_numbers r f.1)
 
-  passed : Passed cs ↔ ((policy_answer s ≡ Accepted) × InRange z n × (length (text_of n) ≤ length out))
+  passed : Passed cs ↔ ((policy_answer s ≡ Ok tt) × InRange z n × (length (text_of n) ≤ length out))
   unfolding encode_checks writing_checks
   passed = (λ q. let p = (both_passed s later).0 q in told_by p.0 p.1, λ q. (both_passed s later).1 (q.0, passes q.1 q.2))
     where
-      told_by : policy_answer s ≡ Accepted → Passed later → (policy_answer s ≡ Accepted) × InRange z n × (length (text_of n) ≤ length out)
+      told_by : policy_answer s ≡ Ok tt → Passed later → (policy_answer s ≡ Ok tt) × InRange z n × (length (text_of n) ≤ length out)
       told_by a (pass b (pass c none)) = (a, (numbers_law z n).0 b, leb-true _ _ c)
 
       passes : InRange z n → length (text_of n) ≤ length out → Passed later

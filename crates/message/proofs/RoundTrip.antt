@@ -1,6 +1,6 @@
 -- Reading and writing are each other's inverse: the fields stand as they are written, and the value bytes behind them are the named values packed, in
 -- both directions. Assumes nothing.
-use Rattle.std.specs.Prelude.{ℕ, zero, suc, ◌+◌, ◌*◌, ◌^◌, ◌≤◌, ◌<◌, ◌≡◌, refl, Bool, true, false, List, ◌++◌, get_or, length, take, drop}
+use Rattle.std.specs.Prelude.{ℕ, zero, suc, ◌+◌, ◌*◌, ◌^◌, ◌≤◌, ◌<◌, ◌≡◌, refl, Bool, true, false, List, ◌++◌, get_or, length, take, drop, Ok}
 use Rattle.std.proofs.Common.{arith, zero-add, ap, ap₂, ◌∙◌, true≢false, pow_mono, ext_get_or, take_at}
 use Rattle.std.proofs.Math.Path.{sym, subst}
 use Rattle.std.proofs.Math.ListN.{length-append}
@@ -14,7 +14,6 @@ use Rattle.encoding.specs.Layout.{width, follows}
 use Rattle.encoding.specs.Text.{ByteString, Stands}
 use Rattle.encoding.specs.Texts.{Width, one, two, four, Holds}
 use Rattle.encoding.proofs.Texts.{stands_first, stands_next, stands_both, length_bytes, number_written, number_stands, takes_most, bytes_both, bytes_number, bytes_text, length_text, laid_out, laid_holds, text_stands}
-use Rattle.refusal.specs.declared.Answer.TheVariants.{Accepted}
 use Rattle.policy.specs.declared.Sizes.{Sizes}
 use Rattle.policy.specs.Format.{policy_of}
 use Rattle.policy.specs.Format.{answer_of as policy_answer}
@@ -24,7 +23,8 @@ use Rattle.message.specs.declared.Event.TheVariants.{Observation, Alive}
 use Rattle.message.specs.declared.MessageNumbers.{MessageNumbers}
 use Rattle.message.specs.Encoded.{IsEvent, is_observation, is_alive, is_alive_event, IsMessage}
 use Rattle.message.specs.Format.{widths, value_bytes}
-use Rattle.message.specs.Fixes.{Message, WellFormed, meaning_of}
+use Rattle.message.specs.Fixes.{WellFormed, meaning_of}
+use Rattle.message.specs.declared.Message.{Message}
 use Rattle.message.proofs.ReadLaws.{only_values, accepts, reads}
 use Rattle.message.specs.Text.{event_numbers, numbers_of, Observes, InRange, field_of, fields_part, values_part, text_of, encode_of}
 use Rattle.message.specs.Written.{SizesIn, RoundTrip, Encodes}
@@ -299,10 +299,10 @@ module _ (z : Sizes) (ok : SizesIn z) where
 
 -- ---- under an accepted policy
 
-pub sizes_in : (s : List ℕ) → policy_answer s ≡ Accepted → SizesIn (policy_of s).sizes
+pub sizes_in : (s : List ℕ) → policy_answer s ≡ Ok tt → SizesIn (policy_of s).sizes
 sizes_in s e = let p = accepted s e in record { propositions_in = p.propositions; components_in = p.components; minutes_in = p.minutes }
 
-pub encodes : (s : List ℕ) → policy_answer s ≡ Accepted → Encodes s
+pub encodes : (s : List ℕ) → policy_answer s ≡ Ok tt → Encodes s
 encodes s a =
     let trip = round_trip (policy_of s).sizes (sizes_in s a) in
     record {

@@ -1,20 +1,15 @@
 -- What a message is, apart from its bytes, and what it fixes.
-use Rattle.std.specs.Prelude.{ℕ, suc, ◌-◌, ◌≤◌, ◌<◌, ◌≡◌, Bool, true, ◌⊎◌, List}
+use Rattle.std.specs.Prelude.{ℕ, suc, ◌-◌, ◌≤◌, ◌<◌, ◌≡◌, Bool, true, ◌⊎◌, List, Ok}
 use Rattle.bits.specs.Bits.{bit}
 use Rattle.policy.specs.declared.Sizes.{Sizes}
-use Rattle.refusal.specs.declared.Answer.TheVariants.{Accepted}
+use Rattle.message.specs.declared.Message.{Message}
 use Rattle.message.specs.declared.Event.{Event}
 use Rattle.message.specs.declared.Event.TheVariants.{Observation, Alive}
 use Rattle.message.specs.Format.{answer_of, component_of, event_of}
 
-pub record Message : Type 0 where
-  -- 01: its station
-  pub component : ℕ
-  pub event : Event
-
 -- "A slip that neither 7 nor 8 turns away is well_formed"
 abbrev pub WellFormed : Sizes → List ℕ → Type 0
-WellFormed z s = answer_of z s ≡ Accepted
+WellFormed z s = answer_of z s ≡ Ok tt
 
 unfoldable pub meaning_of : List ℕ → Message
 meaning_of s = record { component = component_of s; event = event_of s }

@@ -1,20 +1,16 @@
 -- 01, "The slip", as functions of the bytes. Each definition opens with its sentence.
-use Rattle.std.specs.Prelude.{ℕ, zero, suc, ◌+◌, ◌/◌, ◌^◌, Bool, true, false, cond, ◌&&◌, List, [], ◌∷◌, eqb, ltb, leb, get_or, length, take, drop}
+use Rattle.message.specs.declared.Message.{Message}
+use Rattle.std.specs.Prelude.{ℕ, zero, suc, ◌+◌, ◌/◌, ◌^◌, Bool, true, false, cond, ◌&&◌, List, [], ◌∷◌, eqb, ltb, leb, get_or, length, take, drop, None, Option, Result, Some}
 use Rattle.bits.specs.Digits.{below, expanded}
 use Rattle.encoding.specs.Fields.{has, long_of, field8, written}
 use Rattle.encoding.specs.Layout.{start, extent, field}
 use Rattle.refusal.specs.declared.Refusal.{Refusal}
 use Rattle.refusal.specs.declared.Refusal.TheVariants.{TruncatedMessage, BadMessage}
 use Rattle.policy.specs.declared.Sizes.{Sizes}
-use Rattle.refusal.specs.declared.Answer.{Answer}
-use Rattle.refusal.specs.declared.Answer.TheVariants.{Accepted, Refused}
-use Rattle.refusal.specs.Checks.{Check, check, first_failed}
+use Rattle.refusal.specs.Checks.{Checked, Check, check, first_failed, give_unless}
 use Rattle.message.specs.declared.Fields.{Fields}
 use Rattle.message.specs.declared.Event.{Event}
 use Rattle.message.specs.declared.Event.TheVariants.{Observation, Alive}
-use Rattle.message.specs.declared.Decoded.{Decoded}
-use Rattle.message.specs.declared.Length.{Length}
-use Rattle.message.specs.declared.Length.TheVariants.{Whole, EndsEarly}
 
 -- ---- the fields
 
@@ -73,8 +69,8 @@ fields_of s =
 unfoldable pub length_of : List ℕ → ℕ
 length_of s = values_at (map_of s) + value_bytes (named_of s)
 
-unfoldable pub measured : List ℕ → Length
-measured s = cond (leb (length_of s) (length s)) (Whole (length_of s)) EndsEarly
+unfoldable pub measured : List ℕ → Option ℕ
+measured s = cond (leb (length_of s) (length s)) (Some (length_of s)) None
 
 -- ---- the rules
 
@@ -123,7 +119,7 @@ message_checks z s =
     ∷ check (good_message z s) BadMessage
     ∷ []
 
-unfoldable pub answer_of : Sizes → List ℕ → Answer
+unfoldable pub answer_of : Sizes → List ℕ → Checked
 answer_of z s = first_failed (message_checks z s)
 
 -- "A slip read is either an observation or an alive": bit 4 tells which
@@ -138,18 +134,11 @@ abbrev pub event_of : List ℕ → Event
 event_of s = event_in (fields_of s)
 
 -- ".. inside one answer that also holds its station"
-abbrev pub accepted_with : Fields → Decoded
-accepted_with f = record { answer = Accepted; component = f.component; event = event_in f }
+abbrev pub message_in : Fields → Message
+message_in f = record { component = f.component; event = event_in f }
 
-abbrev pub refused_with : Refusal → Decoded
-refused_with r = record { answer = Refused r; component = 0; event = Alive 0 0 }
-
-abbrev pub with_answer : Answer → List ℕ → Decoded
-with_answer Accepted s = accepted_with (fields_of s)
-with_answer (Refused r) s = refused_with r
-
-unfoldable pub decode_of : Sizes → List ℕ → Decoded
-decode_of z s = with_answer (answer_of z s) s
+unfoldable pub decode_of : Sizes → List ℕ → Result Message Refusal
+decode_of z s = give_unless (answer_of z s) (message_in (fields_of s))
 
 -- ---- the first message of a byte string, and what follows it (02, request 1)
 
@@ -157,11 +146,11 @@ decode_of z s = with_answer (answer_of z s) s
 abbrev pub first_checks : Sizes → List ℕ → List Check
 first_checks z s = check (leb (length_of s) (length s)) (TruncatedMessage (length s)) ∷ check (good_message z s) BadMessage ∷ []
 
-unfoldable pub first_answer : Sizes → List ℕ → Answer
+unfoldable pub first_answer : Sizes → List ℕ → Checked
 first_answer z s = first_failed (first_checks z s)
 
-unfoldable pub first_of : Sizes → List ℕ → Decoded
-first_of z s = with_answer (first_answer z s) s
+unfoldable pub first_of : Sizes → List ℕ → Result Message Refusal
+first_of z s = give_unless (first_answer z s) (message_in (fields_of s))
 
 -- how many bytes it takes: all there are where it ends early
 unfoldable pub used_of : List ℕ → ℕ

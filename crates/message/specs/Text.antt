@@ -14,7 +14,7 @@ use Rattle.message.specs.declared.Event.{Event}
 use Rattle.message.specs.declared.Event.TheVariants.{Observation, Alive}
 use Rattle.message.specs.declared.MessageNumbers.{MessageNumbers}
 use Rattle.message.specs.Format.{widths, value_bytes}
-use Rattle.message.specs.Fixes.{Message}
+use Rattle.message.specs.declared.Message.{Message}
 
 -- the numbers of what a reader gives: a station and its event
 abbrev pub event_numbers : ℕ → Event → MessageNumbers

@@ -1,7 +1,10 @@
 // The message (01: the slip): what it says, its fields, and the numbers from which it is written. `message_codec` reads and writes it.
 #![tactic(auto)]
 
-use refusal::Answer;
+ghost use Rattle.std.specs.Prelude.{◌≡◌};
+ghost use Rattle.message.specs.Text.{numbers_of};
+
+use refusal::Refusal;
 
 // What a component reports (01: an observation, or an alive slip), with its minute and its sequence number (01: count).
 #[derive(Clone, Copy)]
@@ -19,10 +22,9 @@ pub enum Event {
     },
 }
 
-// The answer, and beside it the component (01: station) and its event; a refusal has component 0 and an empty alive.
+// What a message says: its component (01: station) and its event.
 #[derive(Clone, Copy)]
-pub struct Decoded {
-    pub answer: Answer,
+pub struct Message {
     pub component: usize,
     pub event: Event,
 }
@@ -31,7 +33,7 @@ pub struct Decoded {
 #[derive(Clone, Copy)]
 pub struct MessageNumbers {
     pub component: usize,
-    // an alive slip, which names nothing, or else an observation
+    // an alive slip, which names nothing, or else an observation: a flag and no enum, since the writer is asked of one that names, and refuses it
     pub alive: bool,
     pub minute: usize,
     pub number: usize,
@@ -39,14 +41,39 @@ pub struct MessageNumbers {
     pub values: u32,
 }
 
-// How long the message at the start of some bytes is.
-#[derive(Clone, Copy)]
-pub enum Length {
-    Whole(usize),
-    EndsEarly,
+// The numbers of what the reader gives.
+impl From<Message> for MessageNumbers {
+    ghost from_gives = { λ message numbers. numbers ≡ numbers_of message };
+
+    fn from(message: Message) -> MessageNumbers {
+        match message.event {
+            Event::Observation {
+                minute,
+                number,
+                named,
+                values,
+            } => MessageNumbers {
+                component: message.component,
+                alive: false,
+                minute: minute as usize,
+                number: number as usize,
+                named,
+                values,
+            },
+            Event::Alive { minute, number } => MessageNumbers {
+                component: message.component,
+                alive: true,
+                minute: minute as usize,
+                number: number as usize,
+                named: 0,
+                values: 0,
+            },
+        }
+    }
 }
 
 // The message's bit map and its fields, absent ones as 0, and its value bytes as one number.
+// No Option for an absent one: the definition `fields_of` has 0 there.
 #[derive(Clone, Copy)]
 pub struct Fields {
     pub map: u8,
@@ -57,9 +84,9 @@ pub struct Fields {
     pub packed: u32,
 }
 
-// The same as plain data, for callers that hold no reference: what the first message says, and how many bytes follow it.
+// What the first message says, and how many bytes follow it, as plain data for callers that hold no reference.
 #[derive(Clone, Copy)]
 pub struct Step {
-    pub decoded: Decoded,
+    pub decoded: Result<Message, Refusal>,
     pub left: usize,
 }

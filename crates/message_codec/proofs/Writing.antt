@@ -1,4 +1,5 @@
 -- How long a message is, what is stored once its fields and then its values are, and what each way through the writer answers. Assumes nothing.
+use Rattle.std.specs.Prelude.{Err, Ok, Result}
 use Prim.Native.Nat.{ℕ, ◌+◌, ◌≤◌, ◌<◌}
 use native.Mathlib.Omega.{arith}
 use mathlib.Core.Path.{◌≡◌, refl, sym, ap, ap₂, ◌∙◌}
@@ -15,16 +16,13 @@ use Rattle.encoding.proofs.Texts.{length_bytes, length_text}
 use Rattle.encoding.proofs.Putting.{nothing_put, then_put, then_bytes, all_put}
 use Rattle.refusal.specs.declared.Refusal.{Refusal}
 use Rattle.refusal.specs.declared.Refusal.TheVariants.{BadMessage, ShortBuffer}
-use Rattle.refusal.specs.declared.Answer.TheVariants as C
-use Rattle.refusal.specs.declared.Written.{Written}
-use Rattle.refusal.specs.declared.Written.TheVariants.{Length, Refused}
+use Rattle.refusal.specs.Writes.{Written}
 use Rattle.refusal.specs.Checks.{Check}
 use Rattle.refusal.specs.Writes.{Output}
-use Rattle.policy.specs.declared.Decoded.{Decoded}
 use Rattle.policy.specs.declared.Policy.{Policy}
 use Rattle.policy.specs.declared.Sizes.{Sizes}
 use Rattle.policy.specs.Format.{policy_of, decode_of}
-use Rattle.policy.proofs.Laws.{answered, handed_out}
+use Rattle.policy.proofs.Laws.{refused, handed_out}
 use Rattle.policy.proofs.CheckedFirst.{leaves_refused, leaves_written}
 use Rattle.message.specs.declared.MessageNumbers.{MessageNumbers}
 use Rattle.message.specs.Format.{widths, value_bytes}
@@ -58,32 +56,33 @@ module _ (z : Sizes) (n : MessageNumbers) (out : List ℕ) where
   abbrev Answers : Written → List ℕ → Type 0
   Answers a o = ◌≡◌ {A = Output} (record { answer = a; out = o }) (encode_under z n out)
 
-  pub bad_refused : numbers_good z n ≡ false → Answers (Refused BadMessage) out
+  pub bad_refused : numbers_good z n ≡ false → Answers (Err BadMessage) out
   unfolding encode_under writing_checks
   bad_refused a = rw a
 
   module _ (a : numbers_good z n ≡ true) (size : ℕ) (e : size ≡ length (text_of n)) where
-    pub short_refused : length out < size → Answers (Refused ShortBuffer) out
+    pub short_refused : length out < size → Answers (Err ShortBuffer) out
     unfolding encode_under writing_checks
     short_refused h = let b : leb (length (text_of n)) (length out) ≡ false = lt-leb (length (text_of n)) (length out) (omega arith) in rw (a, b)
 
-    pub all_written : size ≤ length out → (out' : List ℕ) → out' ≡ text_of n ++ drop (length (text_of n)) out → Answers (Length size) out'
+    pub all_written : size ≤ length out → (out' : List ℕ) → out' ≡ text_of n ++ drop (length (text_of n)) out → Answers (Ok size) out'
     unfolding encode_under writing_checks
     all_written h out' f = let b : leb (length (text_of n)) (length out) ≡ true = le-leb (length (text_of n)) (length out) (omega arith) in rw (a, b, e, f)
 
 -- ---- the policy first
 
-module _ (s : List ℕ) (n : MessageNumbers) (out : List ℕ) (d : Decoded) (same : d ≡ decode_of s) where
+module _ (s : List ℕ) (n : MessageNumbers) (out : List ℕ) (d : Result Policy Refusal) (same : d ≡ decode_of s) where
   abbrev later : List Check
   later = writing_checks (policy_of s).sizes n (length out)
 
-  pub policy_refused : (r : Refusal) → d.answer ≡ C.Refused r → ◌≡◌ {A = Output} (record { answer = Refused r; out = out }) (encode_of s n out)
+  pub policy_refused : (r : Refusal) → d ≡ Err r → ◌≡◌ {A = Output} (record { answer = Err r; out = out }) (encode_of s n out)
   unfolding encode_of encode_checks
-  policy_refused r e = sym (leaves_refused s later (text_of n) out r (answered s d (C.Refused r) same e))
+  policy_refused r e = sym (leaves_refused s later (text_of n) out r (refused s d r same e))
 
-  pub policy_read : d.answer ≡ C.Accepted → (o : Output) → o ≡ encode_under d.policy.sizes n out → o ≡ encode_of s n out
+  pub policy_read : (p : Policy) → d ≡ Ok p → (o : Output) → o ≡ encode_under p.sizes n out → o ≡ encode_of s n out
   unfolding encode_of encode_checks encode_under
-  policy_read e o f =
+  policy_read p e o f =
+      let h = handed_out s d p same e in
       f
-      ∙ ap (λ (p : Policy). encode_under p.sizes n out) (handed_out s d same e)
-      ∙ sym (leaves_written s later (text_of n) out (answered s d C.Accepted same e))
+      ∙ ap (λ (q : Policy). encode_under q.sizes n out) h.1
+      ∙ sym (leaves_written s later (text_of n) out h.0)

@@ -4,20 +4,19 @@
 ghost use Rattle.std.specs.Prelude.{◌≡◌, ◌+◌, ◌^◌, ◌≤◌, ◌<◌, ◌++◌, ltb, length, drop};
 ghost use Rattle.std.proofs.lemmas.List.Edits.{sets};
 ghost use Rattle.bits.specs.Digits.{below, expanded};
-ghost use Rattle.encoding.specs.Fields.{field8};
-ghost use Rattle.message.specs.Format.{minute_at, number_at, named_at, values_at, value_bytes, packed_at, fields_of, length_of, measured, good_alive, good_observation, good_event, all_written, good_fields, event_in, refused_with, first_of, used_of, rest_of};
+ghost use Rattle.message.specs.Format.{minute_at, number_at, named_at, values_at, value_bytes, packed_at, fields_of, length_of, measured, good_alive, good_observation, good_event, all_written, good_fields, event_in, first_of, used_of, rest_of};
 ghost use Rattle.message.specs.Packet.{step_of};
 ghost use Rattle.message_codec.specs.Packet.{Part};
 ghost use Rattle.refusal.specs.Writes.{Output};
-ghost use Rattle.message.specs.Text.{event_numbers, alive_good, observation_good, kind_good, numbers_good, text_map, fields_part, text_of, encode_under, encode_of};
+ghost use Rattle.message.specs.Text.{numbers_of, alive_good, observation_good, kind_good, numbers_good, text_map, fields_part, text_of, encode_under, encode_of};
 
 use encoding::{
-    field_length, flag, flag_if, gather, has, is_written, long, put, put_bytes, put_field, read8,
-    read16, read32, size_of,
+    field_length, flag, flag_if, gather, has, is_written, put, put_bytes, put_field, read8, read16,
+    read32, size_of,
 };
-use message::{Decoded, Event, Fields, Length, MessageNumbers, Step};
+use message::{Event, Fields, Message, MessageNumbers, Step};
 use policy::Sizes;
-use refusal::{Answer, Refusal, Written};
+use refusal::Refusal;
 
 // The bits of the map: which fields follow it, in their order, and whether it is an alive slip.
 const COMPONENT: u8 = 1;
@@ -35,6 +34,9 @@ const SPARE: u8 = 32;
 
 // How many propositions a map can name, a bit each.
 const NAMES: usize = 32;
+
+// The most value bytes.
+const VALUE_BYTES: usize = 4;
 
 // The largest sequence number, of two bytes.
 const MOST_NUMBER: usize = 65535;
@@ -78,27 +80,15 @@ fn value_bytes(named: u32) -> usize
     (count(named) + 7) / 8
 }
 
-// Byte j of the n value bytes, 0 past the last.
-fn value_byte(s: &[u8], n: usize, at: usize, j: usize) -> u8
-    requires { at + n ≤ length s.now }
-    ensures { result ≡ field8 s.now (ltb j n) (at + j) }
-{
-    if j < n {
-        return s[at + j];
-    }
-    0
-}
-
-// The value bytes as one number, the first byte lowest.
+// The value bytes as one number, the first byte lowest: at most four.
 fn packed_at(s: &[u8], n: usize, at: usize) -> u32
     requires { at + n ≤ length s.now }
     ensures { result ≡ packed_at s.now n at }
 {
-    let a = value_byte(s, n, at, 0);
-    let b = value_byte(s, n, at, 1);
-    let c = value_byte(s, n, at, 2);
-    let d = value_byte(s, n, at, 3);
-    long(a, b, c, d)
+    let count = n.min(VALUE_BYTES);
+    let mut bytes = [0; VALUE_BYTES];
+    bytes[..count].copy_from_slice(&s[at..at + count]);
+    u32::from_le_bytes(bytes)
 }
 
 // The fields of a message that has all its bytes.
@@ -113,36 +103,36 @@ fn fields_of(s: &[u8]) -> Fields
     let named = read32(s, has(map, NAMED), named_at(map));
     let packed = packed_at(s, value_bytes(named), values_at(map));
     Fields {
-        map: map,
-        component: component,
-        minute: minute,
-        number: number,
-        named: named,
-        packed: packed,
+        map,
+        component,
+        minute,
+        number,
+        named,
+        packed,
     }
 }
 
-// How long the message is, from its bit map and its mark map alone.
-pub fn measure(s: &[u8]) -> Length
+// How long the message is, from its bit map and its mark map alone; none where it ends early.
+pub fn measure(s: &[u8]) -> Option<usize>
     ensures { result ≡ measured s.now }
 {
-    if s.len() == 0 {
-        return Length::EndsEarly;
+    if s.is_empty() {
+        return None;
     }
     let map = s[0];
     let values = values_at(map);
     if s.len() < values {
-        return Length::EndsEarly;
+        return None;
     }
     let named = read32(s, has(map, NAMED), named_at(map));
     let whole = values + value_bytes(named);
     if s.len() < whole {
-        return Length::EndsEarly;
+        return None;
     }
-    Length::Whole(whole)
+    Some(whole)
 }
 
-// The values' bits at the places of their propositions, lowest first.
+// The values' bits at the places of their propositions, lowest first. A walk by trailing zeros is a form that the project names.
 fn expand(named: u32, packed: u32) -> u32
     ensures { result ≡ expanded 32 named packed }
 {
@@ -230,61 +220,39 @@ fn event_in(f: Fields) -> Event
         minute: f.minute,
         number: f.number,
         named: f.named,
-        values: values,
-    }
-}
-
-// What is answered to a message that is turned away.
-fn refused(r: Refusal) -> Decoded
-    ensures { result ≡ refused_with r }
-{
-    let answer = Answer::Refused(r);
-    let event = Event::Alive {
-        minute: 0,
-        number: 0,
-    };
-    Decoded {
-        answer: answer,
-        component: 0,
-        event: event,
+        values,
     }
 }
 
 // What the first message says, or why it is turned away: 7 where it ends early, then 8. What follows it is not looked at.
-pub fn decode(packet: &[u8], sizes: Sizes) -> Decoded
+pub fn decode(packet: &[u8], sizes: Sizes) -> Result<Message, Refusal>
     ensures { result ≡ first_of sizes packet.now }
 {
-    match measure(packet) {
-        Length::EndsEarly => refused(Refusal::TruncatedMessage(packet.len())),
-        Length::Whole(_) => {
-            let f = fields_of(packet);
-            if !good_fields(f, sizes) {
-                return refused(Refusal::BadMessage);
-            }
-            let event = event_in(f);
-            Decoded {
-                answer: Answer::Accepted,
-                component: f.component as usize,
-                event: event,
-            }
-        }
+    if measure(packet).is_none() {
+        return Err(Refusal::TruncatedMessage(packet.len()));
     }
+    let f = fields_of(packet);
+    if !good_fields(f, sizes) {
+        return Err(Refusal::BadMessage);
+    }
+    Ok(Message {
+        component: f.component as usize,
+        event: event_in(f),
+    })
 }
 
 // What follows it, a part of the caller's slice; nothing where it ends early.
 fn rest_of(packet: &[u8]) -> &[u8]
     ensures { Part packet.entry (used_of packet.now) result }
 {
-    match measure(packet) {
-        Length::EndsEarly => &packet[packet.len()..],
-        Length::Whole(n) => &packet[n..],
-    }
+    let used = measure(packet).unwrap_or(packet.len());
+    &packet[used..]
 }
 
 // What the first message says, and what follows it.
 #[derive(Clone, Copy)]
 pub struct First<'a> {
-    pub decoded: Decoded,
+    pub decoded: Result<Message, Refusal>,
     pub rest: &'a [u8],
 }
 
@@ -298,53 +266,18 @@ pub fn read_first<'a>(packet: &'a [u8], sizes: Sizes) -> First<'a>
     First { decoded, rest }
 }
 
-fn step_of(decoded: Decoded, rest: &[u8]) -> Step
-    ensures { result ≡ step_of decoded rest.now }
-{
-    Step {
-        decoded: decoded,
-        left: rest.len(),
-    }
-}
-
 // Reads the first message of a packet and counts the rest.
 pub fn first_step(packet: &[u8], sizes: Sizes) -> Step
     ensures { result ≡ step_of (first_of sizes packet.now) (rest_of packet.now) }
 {
     let first = read_first(packet, sizes);
-    step_of(first.decoded, first.rest)
+    Step {
+        decoded: first.decoded,
+        left: first.rest.len(),
+    }
 }
 
 // ---- what is written (02, request 3)
-
-// The numbers of what the reader gives.
-fn numbers_of(component: usize, event: Event) -> MessageNumbers
-    ensures { result ≡ event_numbers component event }
-{
-    match event {
-        Event::Observation {
-            minute,
-            number,
-            named,
-            values,
-        } => MessageNumbers {
-            component: component,
-            alive: false,
-            minute: minute as usize,
-            number: number as usize,
-            named: named,
-            values: values,
-        },
-        Event::Alive { minute, number } => MessageNumbers {
-            component: component,
-            alive: true,
-            minute: minute as usize,
-            number: number as usize,
-            named: 0,
-            values: 0,
-        },
-    }
-}
 
 // Are the numbers of an alive slip in range.
 fn alive_good(sizes: Sizes, n: MessageNumbers) -> bool
@@ -426,40 +359,31 @@ fn put_text(out: &mut [u8], n: MessageNumbers)
 }
 
 // Writes the message under a policy of these sizes.
-fn encode_under(sizes: Sizes, n: MessageNumbers, out: &mut [u8]) -> Written
+fn encode_under(sizes: Sizes, n: MessageNumbers, out: &mut [u8]) -> Result<usize, Refusal>
     ensures { ◌≡◌ {A = Output} (record { answer = result; out = out.new }) (encode_under sizes n out.old) }
 {
     if !numbers_good(sizes, n) {
-        return Written::Refused(Refusal::BadMessage);
+        return Err(Refusal::BadMessage);
     }
     let size = text_size(n);
     if out.len() < size {
-        return Written::Refused(Refusal::ShortBuffer);
+        return Err(Refusal::ShortBuffer);
     }
     put_text(out, n);
-    Written::Length(size)
+    Ok(size)
 }
 
 // Writes the message with these numbers under an encoded policy, or says why it is refused; then nothing is written.
-pub fn encode_numbers(policy: &[u8], n: MessageNumbers, out: &mut [u8]) -> Written
+pub fn encode_numbers(policy: &[u8], n: MessageNumbers, out: &mut [u8]) -> Result<usize, Refusal>
     ensures { ◌≡◌ {A = Output} (record { answer = result; out = out.new }) (encode_of policy.now n out.old) }
 {
-    let decoded = policy_codec::decode(policy);
-    let answer = decoded.answer;
-    match answer {
-        Answer::Refused(r) => Written::Refused(r),
-        Answer::Accepted => {
-            let p = decoded.policy;
-            let sizes = p.sizes;
-            encode_under(sizes, n, out)
-        }
-    }
+    let p = policy_codec::decode(policy)?;
+    encode_under(p.sizes, n, out)
 }
 
-// The same of what the reader gives: a component and its event.
-pub fn encode(policy: &[u8], component: usize, event: Event, out: &mut [u8]) -> Written
-    ensures { ◌≡◌ {A = Output} (record { answer = result; out = out.new }) (encode_of policy.now (event_numbers component event) out.old) }
+// The same of what the reader gives.
+pub fn encode(policy: &[u8], message: Message, out: &mut [u8]) -> Result<usize, Refusal>
+    ensures { ◌≡◌ {A = Output} (record { answer = result; out = out.new }) (encode_of policy.now (numbers_of message) out.old) }
 {
-    let n = numbers_of(component, event);
-    encode_numbers(policy, n, out)
+    encode_numbers(policy, MessageNumbers::from(message), out)
 }

@@ -3,7 +3,7 @@ use Prim.Native.Nat.{ℕ, zero, suc, ◌+◌, ◌*◌, ◌/◌, ◌%◌, ◌≤�
 use Rattle.std.proofs.Common.{arith, ◌∙◌, true≢false, eqb-true, eq-eqb, ne_eqb}
 use Rattle.std.proofs.Math.Decide.{dec_lt}
 use Rattle.std.proofs.Math.Path.{◌≡◌, sym, ap}
-use Rattle.std.specs.Prelude.{refl, Bool, true, false, ◌↔◌, List, replicate, eqb}
+use Rattle.std.specs.Prelude.{refl, Bool, true, false, ◌↔◌, List, replicate, eqb, Ok}
 use Rattle.std.proofs.Math.Bool.{cond}
 use Rattle.std.proofs.Math.ListN.{get_or, length, length-replicate, get_or-replicate, get_or-eq_default}
 use Rattle.std.proofs.Math.Seq.{ext_get_or}
@@ -13,8 +13,7 @@ use Rattle.bits.proofs.Bits.{bit_of_zero}
 use Rattle.logic.proofs.Bools.{both, pair}
 use Rattle.rows.specs.Grid.{table}
 use Rattle.rows.proofs.Grid.{table_length, table_at, place_of, in_grid}
-use Rattle.refusal.specs.declared.Answer.{Answer as Checked}
-use Rattle.refusal.specs.declared.Answer.TheVariants as C
+use Rattle.refusal.specs.Checks.{Checked}
 use Rattle.refusal.specs.Checks.{first_failed, and_then, pass, none as none_left}
 use Rattle.refusal.proofs.Laws.{passing_law, in_order, passed_both}
 use Rattle.policy.specs.declared.Policy.{Policy}
@@ -129,17 +128,17 @@ module _ (c : Policy) where
 
 -- ---- a take whose first checks pass
 
-module _ (s : List ℕ) (x : State) (card : answer_of s ≡ C.Accepted) (z : Sized (policy_of s) x) (o : x.origin ≡ origin_of s)
+module _ (s : List ℕ) (x : State) (card : answer_of s ≡ Ok tt) (z : Sized (policy_of s) x) (o : x.origin ≡ origin_of s)
     (k : Sound (policy_of s).sizes x.known) where
   -- 1 to 5, and 12
-  pub origin_pass : first_failed (origin_checks s x) ≡ C.Accepted
+  pub origin_pass : first_failed (origin_checks s x) ≡ Ok tt
   unfolding answer_of
   origin_pass =
       (passing_law (origin_checks s x)).1
       (passed_both (opening_checks s x) _ (passed_both (policy_checks s) _ ((passing_law (policy_checks s)).0 card)
       (pass ((sized_law (policy_of s) x).1 z) none_left)) (pass ((under_law s x.origin).1 o) none_left))
 
-  pub first_pass : first_failed (record_checks s x) ≡ C.Accepted
+  pub first_pass : first_failed (record_checks s x) ≡ Ok tt
   first_pass =
       (passing_law (record_checks s x)).1
       (passed_both (origin_checks s x) _ ((passing_law (origin_checks s x)).0 origin_pass) (pass ((sound_law (policy_of s).sizes x.known).1 k) none_left))

@@ -1,8 +1,7 @@
 -- Cases that pin the checks of a record: 01's number of a record that is not sound, and 02's of one that was opened under another card. Assumes nothing.
 use Prim.Native.Nat.{ℕ}
-use Rattle.std.specs.Prelude.{◌≡◌, refl, List}
+use Rattle.std.specs.Prelude.{◌≡◌, refl, List, Ok}
 use Rattle.refusal.specs.declared.Refusal.TheVariants.{CorruptKnowledge, OtherPolicy}
-use Rattle.refusal.specs.declared.Answer.TheVariants as C
 use Rattle.refusal.specs.Checks.{first_failed, pass, none as none_left, here, RefusedWith}
 use Rattle.refusal.proofs.Laws.{refusal_law, passing_law, passed_both, refused_first, refused_later}
 use Rattle.policy.specs.Format.{policy_checks, answer_of, policy_of}
@@ -15,7 +14,7 @@ use Rattle.monitor.specs.State.{State, Sized, record_checks, origin_checks, open
 use Rattle.monitor.proofs.Laws.{sized_law}
 
 -- "6": under an accepted card, in buffers of its sizes and opened under it, a record that is not sound is refused with 6, and nothing else
-pub corrupt_record : (s : List ℕ) (x : State) → answer_of s ≡ C.Accepted → Sized (policy_of s) x → x.origin ≡ origin_of s
+pub corrupt_record : (s : List ℕ) (x : State) → answer_of s ≡ Ok tt → Sized (policy_of s) x → x.origin ≡ origin_of s
     → (Sound (policy_of s).sizes x.known → ⊥) → RefusedWith (first_failed (record_checks s x)) 6 0
 unfolding answer_of
 corrupt_record s x card z o n =
@@ -31,7 +30,7 @@ corrupt_record s x card z o n =
     }
 
 -- "12, other card, after 5 and before 6": one that was not opened under the card is refused with 12, sound or not
-pub other_record : (s : List ℕ) (x : State) → answer_of s ≡ C.Accepted → Sized (policy_of s) x → (x.origin ≡ origin_of s → ⊥)
+pub other_record : (s : List ℕ) (x : State) → answer_of s ≡ Ok tt → Sized (policy_of s) x → (x.origin ≡ origin_of s → ⊥)
     → RefusedWith (first_failed (record_checks s x)) 12 0
 unfolding answer_of
 other_record s x card z n =

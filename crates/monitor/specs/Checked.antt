@@ -1,11 +1,10 @@
 -- What a call knows of its policy once its first checks are made.
-use Rattle.std.specs.Prelude.{◌≡◌, List, ℕ}
-use Rattle.refusal.specs.declared.Answer.TheVariants.{Accepted}
-use Rattle.refusal.specs.Checks.{Check, first_failed}
-use Rattle.policy.specs.declared.Decoded.{Decoded}
+use Rattle.std.specs.Prelude.{List, ℕ, Result}
+use Rattle.refusal.specs.declared.Refusal.{Refusal}
+use Rattle.refusal.specs.Checks.{Check, first_failed, give_unless}
+use Rattle.policy.specs.declared.Policy.{Policy}
 use Rattle.policy.specs.Format.{policy_of}
 
--- the answer is that of the checks, and where they pass the policy is the one that the bytes say
-pub record Checks (cs : List Check) (s : List ℕ) (d : Decoded) : Type 0 where
-  pub answer : d.answer ≡ first_failed cs
-  pub policy : d.answer ≡ Accepted → d.policy ≡ policy_of s
+-- the policy that the bytes say, unless one of the checks refuses
+unfoldable pub checked_policy : List Check → List ℕ → Result Policy Refusal
+checked_policy cs s = give_unless (first_failed cs) (policy_of s)

@@ -3,17 +3,16 @@
 --
 -- s are the bytes of a card, any bytes; `policy_of s` is what they say where they are accepted. x is a state: the lent buffers, of any length and
 -- content, and the lent number. b are the bytes of a slip, any bytes; where packets are spoken of, b are the bytes of a packet and m those of a slip in it.
-use Rattle.std.specs.Prelude.{ℕ, ◌+◌, ◌*◌, ◌≤◌, ◌<◌, ◌≡◌, Bool, true, false, cond, ◌⊎◌, ◌↔◌, ◌≢◌, get_or, length, take}
+use Rattle.monitor.specs.declared.Verdict.{Verdict}
+use Rattle.std.specs.Prelude.{ℕ, ◌+◌, ◌*◌, ◌≤◌, ◌<◌, ◌≡◌, Bool, true, false, cond, ◌⊎◌, ◌↔◌, ◌≢◌, get_or, length, take, Option, None, Some, Err, Ok, Result}
 use mathlib.Core.List.{List, [], ◌∷◌, ◌++◌, map, Memᴰ}
 use Rattle.kleene.specs.Truth.{true3, false3, code_of}
 use Rattle.mtl.specs.Textbook.{Holds}
 use Rattle.refusal.specs.declared.Refusal.{Refusal}
 use Rattle.refusal.specs.declared.Refusal.TheVariants.{Conflict}
-use Rattle.refusal.specs.declared.Answer.{Answer as Checked}
-use Rattle.refusal.specs.declared.Answer.TheVariants as C
+use Rattle.refusal.specs.Checks.{Checked, RefusedWith, reply}
 use Rattle.refusal.specs.Numbers.{refusal_number}
 use Rattle.refusal.specs.Table.{Table, PacketTable}
-use Rattle.refusal.specs.Checks.{RefusedWith}
 use Rattle.policy.specs.declared.Sizes.{Sizes}
 use Rattle.policy.specs.declared.Policy.{Policy}
 use Rattle.policy.specs.Format.{policy_of, count_of, rules_up_to}
@@ -28,7 +27,8 @@ use Rattle.message.specs.Text.{encode_of as encode_message}
 use Rattle.message.specs.Written.{EncodeCauses as MessageEncoded, SizesIn, RoundTrip as MessageRoundTrip, Encodes}
 use Rattle.message.specs.Packet.{Packed}
 use Rattle.message.specs.Encoded.{IsMessage}
-use Rattle.message.specs.Fixes.{Message, FixesNumber, FixesFact, WellFormed, meaning_of}
+use Rattle.message.specs.Fixes.{FixesNumber, FixesFact, WellFormed, meaning_of}
+use Rattle.message.specs.declared.Message.{Message}
 use Rattle.message.specs.Proper.{Cut as CutMessage}
 use Rattle.knowledge.specs.Trace.{Trace, Admits, AdmitsAll, time_point}
 use Rattle.knowledge.specs.Knowledge.{Knowledge, none, noted, valued, fact, number, Sound, Agrees, KnownPoint, KnownNone}
@@ -40,14 +40,9 @@ use Rattle.reach.specs.Called.{ReachCauses}
 use Rattle.completeness.specs.Complete.{Complete, Every, Named, NoBlanks}
 use Rattle.completeness.specs.Reports.{AllTold}
 use Rattle.completeness.specs.Reports.{Reports}
-use Rattle.monitor.specs.declared.Answer.{Answer}
-use Rattle.monitor.specs.declared.Answer.TheVariants.{Done, Received, Refused}
 use Rattle.monitor.specs.declared.Verdict.TheVariants.{Unknown, Satisfied, Violated}
-use Rattle.monitor.specs.declared.Look.{Look}
-use Rattle.monitor.specs.declared.Look.TheVariants as L
 use Rattle.monitor.specs.Lookup.{lookup_of}
-use Rattle.monitor.specs.declared.Stop.{Stop}
-use Rattle.monitor.specs.declared.Stop.TheVariants as P
+use Rattle.monitor.specs.declared.Stopped.{Stopped}
 use Rattle.origin.specs.Origin.{origin_of, same_bytes, HoldsCard}
 use Rattle.monitor.specs.State.{State, Outcome, Sized, open_state, receive, PacketOutcome, take_each, receive_packet, Call, Receive, run_calls, after, Taken, accepted_from, accepted, Offered, Entry, Single, Packet, offers_each, run_entries, accepted_entries, takes_entries}
 
@@ -104,16 +99,6 @@ pub record Exact (z : Sizes) (k : Knowledge) (Q : Message → Type 0) : Type 0 w
 -- refused call changes anything lent to it." (That no call reads or writes out of bounds, wraps a sum or fails to end is proved of every function
 -- of the code.)
 
--- a call's answer, as accepted or refused
-abbrev pub reply : Answer → Checked
-reply Done = C.Accepted
-reply (Received n) = C.Accepted
-reply (Refused r) = C.Refused r
-
-abbrev pub look_reply : Look → Checked
-look_reply (L.Shows v) = C.Accepted
-look_reply (L.Refused r) = C.Refused r
-
 -- 1 to 4, of any call that is lent a card; the others have place 0
 pub record PolicyCauses (s : List ℕ) (a : Checked) : Type 0 where
   pub one : (at : ℕ) → RefusedWith a 1 at ↔ Cut s at
@@ -126,12 +111,12 @@ abbrev pub PolicyPassed : List ℕ → Type 0
 PolicyPassed s = Whole s × Between 1 8 (rules_up_to s (count_of s))
 
 -- an opening, whose outcome is o: 1 to 5. "Opening stops after 5"; "an opening answers done, or its refusal"
-pub record OpeningCauses (s : List ℕ) (x : State) (o : Outcome) : Type 0 where
+pub record OpeningCauses (s : List ℕ) (x : State) (o : Outcome (Unit {0})) : Type 0 where
   pub policy : PolicyCauses s (reply o.answer)
   pub five : (at : ℕ) → RefusedWith (reply o.answer) 5 at ↔ ((at ≡ 0) × PolicyPassed s × (Sized (policy_of s) x → ⊥))
   pub no_other : (n at : ℕ) → RefusedWith (reply o.answer) n at → (1 ≤ n) × (n ≤ 5)
-  pub done : (o.answer ≡ Done) ↔ (PolicyPassed s × Sized (policy_of s) x)
-  pub unwritten : (r : Refusal) → o.answer ≡ Refused r → o.state ≡ x
+  pub done : (o.answer ≡ Ok tt) ↔ (PolicyPassed s × Sized (policy_of s) x)
+  pub unwritten : (r : Refusal) → o.answer ≡ Err r → o.state ≡ x
 
 -- the checks 1 to 6, and 12 between 5 and 6, let the card and the record pass
 pub record Passed (s : List ℕ) (x : State) : Type 0 where
@@ -142,7 +127,7 @@ pub record Passed (s : List ℕ) (x : State) : Type 0 where
 
 -- a take, whose outcome is o: 1 to 9, and 12 (02, request 5): "12, other card, after 5 and before 6, when the stored length or any of the 517 bytes isn't
 -- what opening that card writes; 5 covers the new buffer" (Sized)
-pub record TakeCauses (s : List ℕ) (x : State) (b : List ℕ) (o : Outcome) : Type 0 where
+pub record TakeCauses (s : List ℕ) (x : State) (b : List ℕ) (o : Outcome ℕ) : Type 0 where
   pub policy : PolicyCauses s (reply o.answer)
   pub five : (at : ℕ) → RefusedWith (reply o.answer) 5 at ↔ ((at ≡ 0) × PolicyPassed s × (Sized (policy_of s) x → ⊥))
   pub twelve : (at : ℕ) → RefusedWith (reply o.answer) 12 at
@@ -156,7 +141,7 @@ pub record TakeCauses (s : List ℕ) (x : State) (b : List ℕ) (o : Outcome) : 
       ↔ ((at ≡ 0) × Passed s x × WellFormed (sizes_of s) b × (SomeTrace (sizes_of s) x.known (meaning_of b) → ⊥))
   pub no_other : (n at : ℕ) → RefusedWith (reply o.answer) n at → ((1 ≤ n) × (n ≤ 9)) ⊎ (n ≡ 12)
   pub taken : Taken o.answer ↔ (Passed s x × WellFormed (sizes_of s) b × SomeTrace (sizes_of s) x.known (meaning_of b))
-  pub unwritten : (r : Refusal) → o.answer ≡ Refused r → o.state ≡ x
+  pub unwritten : (r : Refusal) → o.answer ≡ Err r → o.state ≡ x
 
 -- what a look is lent and asked is of the card
 pub record OnSheet (s verdicts : List ℕ) (rule minute : ℕ) : Type 0 where
@@ -171,17 +156,17 @@ code s verdicts rule minute = get_or verdicts (rule * (sizes_of s).minutes + min
 
 -- a look, whose answer is a: 1 to 5 (the verdict sheet only) and then 10. "A look gives the code at rule times M + minute of the lent verdict sheet,
 -- other codes than 1 and 2 read as blank"
-pub record LookCauses (s verdicts : List ℕ) (rule minute : ℕ) (a : Look) : Type 0 where
-  pub policy : PolicyCauses s (look_reply a)
-  pub five : (at : ℕ) → RefusedWith (look_reply a) 5 at
+pub record LookCauses (s verdicts : List ℕ) (rule minute : ℕ) (a : Result Verdict Refusal) : Type 0 where
+  pub policy : PolicyCauses s (reply a)
+  pub five : (at : ℕ) → RefusedWith (reply a) 5 at
       ↔ ((at ≡ 0) × PolicyPassed s × (length verdicts ≡ (policy_of s).rules * (sizes_of s).minutes → ⊥))
-  pub ten : (at : ℕ) → RefusedWith (look_reply a) 10 at
+  pub ten : (at : ℕ) → RefusedWith (reply a) 10 at
       ↔ ((at ≡ 0) × PolicyPassed s × (length verdicts ≡ (policy_of s).rules * (sizes_of s).minutes)
       × ((rule < (policy_of s).rules) × (minute < (sizes_of s).minutes) → ⊥))
-  pub no_other : (n at : ℕ) → RefusedWith (look_reply a) n at → ((1 ≤ n) × (n ≤ 5)) ⊎ (n ≡ 10)
-  pub kept : (a ≡ L.Shows Satisfied) ↔ (OnSheet s verdicts rule minute × (code s verdicts rule minute ≡ 1))
-  pub broken : (a ≡ L.Shows Violated) ↔ (OnSheet s verdicts rule minute × (code s verdicts rule minute ≡ 2))
-  pub blank : (a ≡ L.Shows Unknown) ↔ (OnSheet s verdicts rule minute × (code s verdicts rule minute ≢ 1) × (code s verdicts rule minute ≢ 2))
+  pub no_other : (n at : ℕ) → RefusedWith (reply a) n at → ((1 ≤ n) × (n ≤ 5)) ⊎ (n ≡ 10)
+  pub kept : (a ≡ Ok Satisfied) ↔ (OnSheet s verdicts rule minute × (code s verdicts rule minute ≡ 1))
+  pub broken : (a ≡ Ok Violated) ↔ (OnSheet s verdicts rule minute × (code s verdicts rule minute ≡ 2))
+  pub blank : (a ≡ Ok Unknown) ↔ (OnSheet s verdicts rule minute × (code s verdicts rule minute ≢ 1) × (code s verdicts rule minute ≢ 2))
 
 pub record Demand1 : Type 0 where
   -- the numbers and places are those of 01's table
@@ -216,7 +201,7 @@ pub record Gains (z : Sizes) (k k' : Knowledge) (m : Message) : Type 0 where
   pub fact_kept : (i t : ℕ) → i < 32 → ((b : Bool) → FixesFact m.event i t b → ⊥) → (noted k' i t ≡ noted k i t) × (valued k' i t ≡ valued k i t)
 
 pub record Demand2 : Type 0 where
-  pub opening : (s : List ℕ) (x : State) → (open_state s x).answer ≡ Done → Opened s (policy_of s) (open_state s x).state
+  pub opening : (s : List ℕ) (x : State) → (open_state s x).answer ≡ Ok tt → Opened s (policy_of s) (open_state s x).state
   -- "After every accepted slip the sheet shows .." (Sheets), over the record with what the slip fixes
   pub sheets : (s : List ℕ) (x : State) (b : List ℕ) → Taken (receive s x b).answer → Sheets (policy_of s) (receive s x b).state
   pub gains : (s : List ℕ) (x : State) (b : List ℕ) → Taken (receive s x b).answer → Gains (sizes_of s) x.known (receive s x b).state.known (meaning_of b)
@@ -224,10 +209,10 @@ pub record Demand2 : Type 0 where
   pub origin : (s : List ℕ) (x : State) (b : List ℕ) → (receive s x b).state.origin ≡ x.origin
   -- "a take also gives how many verdicts stand": the total "equals the non-blank cells"
   pub total : (s : List ℕ) (x : State) (b : List ℕ) → Taken (receive s x b).answer
-      → (receive s x b).answer ≡ Received (standing (receive s x b).state.verdicts)
+      → (receive s x b).answer ≡ Ok (standing (receive s x b).state.verdicts)
   -- "A well_formed slip that no earlier check turns away is refused as a clash exactly when no shift fits the record and the slip"
   pub conflict : (s : List ℕ) (x : State) (b : List ℕ) → Passed s x → WellFormed (sizes_of s) b
-      → ((receive s x b).answer ≡ Refused Conflict) ↔ (SomeTrace (sizes_of s) x.known (meaning_of b) → ⊥)
+      → ((receive s x b).answer ≡ Err Conflict) ↔ (SomeTrace (sizes_of s) x.known (meaning_of b) → ⊥)
   -- and some shift fits every sound record
   pub fits : (z : Sizes) (k : Knowledge) → Sound z k → (w : Trace z) × Agrees z w k
 
@@ -258,19 +243,19 @@ pub record Same (s : List ℕ) (x y : State) (xs ys : List Call) : Type 0 where
 -- the new number, and these are of the state too
 pub record Demand3 : Type 0 where
   -- "a slip is accepted exactly when it is well_formed and some one shift could have sent it and every slip accepted before it"
-  pub accept : (s : List ℕ) (x : State) → (open_state s x).answer ≡ Done → (cs : List Call) (b : List ℕ)
+  pub accept : (s : List ℕ) (x : State) → (open_state s x).answer ≡ Ok tt → (cs : List Call) (b : List ℕ)
       → Taken (receive s (after s x cs) b).answer
       ↔ (WellFormed (sizes_of s) b × ((w : Trace (sizes_of s)) × AdmitsAll (sizes_of s) w (accepted s x cs) × Admits (sizes_of s) w (meaning_of b)))
   -- "every kept or broken after any beginning of the list stands at its end"
-  pub stand : (s : List ℕ) (x : State) → (open_state s x).answer ≡ Done → (cs ds : List Call) (r t : ℕ) → r < (policy_of s).rules → t < (sizes_of s).minutes
+  pub stand : (s : List ℕ) (x : State) → (open_state s x).answer ≡ Ok tt → (cs ds : List Call) (r t : ℕ) → r < (policy_of s).rules → t < (sizes_of s).minutes
       → shown (policy_of s) (after s x cs) r t ≢ 0 → shown (policy_of s) (after s x (cs ++ ds)) r t ≡ shown (policy_of s) (after s x cs) r t
   -- "and is the plain two-valued verdict in every shift that could have sent the slips accepted in that beginning"
-  pub truth : (s : List ℕ) (x : State) → (open_state s x).answer ≡ Done → (cs : List Call) (r t : ℕ) → r < (policy_of s).rules → t < (sizes_of s).minutes
+  pub truth : (s : List ℕ) (x : State) → (open_state s x).answer ≡ Ok tt → (cs : List Call) (r t : ℕ) → r < (policy_of s).rules → t < (sizes_of s).minutes
       → shown (policy_of s) (after s x cs) r t ≢ 0 → (w : Trace (sizes_of s)) → AdmitsAll (sizes_of s) w (accepted s x cs)
       → Plain (policy_of s) w r t (shown (policy_of s) (after s x cs) r t)
   -- "Two such lists with the same well_formed slips (any order, any repeats, anything ill-formed between), all of which some one shift could
   -- have sent, both accept all of these and no others and leave the same record, work sheet and verdict sheet"
-  pub same : (s : List ℕ) (x y : State) → (open_state s x).answer ≡ Done → (open_state s y).answer ≡ Done → (xs ys : List Call)
+  pub same : (s : List ℕ) (x y : State) → (open_state s x).answer ≡ Ok tt → (open_state s y).answer ≡ Ok tt → (xs ys : List Call)
       → ((b : List ℕ) → WellFormed (sizes_of s) b → Offered b xs ↔ Offered b ys)
       → (w : Trace (sizes_of s)) → ((b : List ℕ) → Offered b xs → WellFormed (sizes_of s) b → Admits (sizes_of s) w (meaning_of b))
       → Same s x y xs ys
@@ -278,10 +263,10 @@ pub record Demand3 : Type 0 where
 -- ---- packets (02, request 1)
 
 -- The packet stops at a refusal with this number; its place is "counted from the packet's start"
-pub record StoppedWith (e : Stop) (n at : ℕ) : Type 0 where
+pub record StoppedWith (e : Option Stopped) (n at : ℕ) : Type 0 where
   pub refusal : Refusal
   pub place : ℕ
-  pub is : e ≡ P.Refused refusal place
+  pub is : e ≡ Some (record { refusal = refusal; place = place })
   pub number : refusal_number refusal ≡ n
   pub counted : place ≡ at
 
@@ -317,7 +302,7 @@ pub record PacketCauses (s : List ℕ) (x : State) (b : List ℕ) (o : PacketOut
       ↔ (Passed s x × ((m : List ℕ) × (y : State) × ComesTo s x b m at y × WellFormed (sizes_of s) m
       × (SomeTrace (sizes_of s) y.known (meaning_of m) → ⊥)))
   pub no_other : (n at : ℕ) → StoppedWith o.answer.stop n at → ((1 ≤ n) × (n ≤ 9)) ⊎ (n ≡ 12)
-  pub at_end : (o.answer.stop ≡ P.AtEnd) ↔ (Passed s x × EachTaken s x (messages_of b))
+  pub at_end : (o.answer.stop ≡ None) ↔ (Passed s x × EachTaken s x (messages_of b))
   -- "It gives the number taken"
   pub taken : o.answer.taken ≡ length (accepted_from s x (offers_each s x (messages_of b)))
   -- "'A refused call changes nothing' is meant of each take in the packet": before the first message is taken, nothing is written
@@ -373,31 +358,31 @@ pub record Demand3Packets : Type 0 where
   pub takes : (s : List ℕ) (x : State) (es : List Entry)
       → (after_entries s x es ≡ after s x (takes_of s x es)) × (accepted_in s x es ≡ accepted s x (takes_of s x es))
   -- so demand 3's claims hold of it: a take after such a list,
-  pub accept : (s : List ℕ) (x : State) → (open_state s x).answer ≡ Done → (es : List Entry) (b : List ℕ)
+  pub accept : (s : List ℕ) (x : State) → (open_state s x).answer ≡ Ok tt → (es : List Entry) (b : List ℕ)
       → Taken (receive s (after_entries s x es) b).answer
       ↔ (WellFormed (sizes_of s) b × ((w : Trace (sizes_of s)) × AdmitsAll (sizes_of s) w (accepted_in s x es) × Admits (sizes_of s) w (meaning_of b)))
   -- and each message m of a packet that it comes to, those before it being taken
-  pub accept_in : (s : List ℕ) (x : State) → (open_state s x).answer ≡ Done → (es : List Entry) (b : List ℕ)
+  pub accept_in : (s : List ℕ) (x : State) → (open_state s x).answer ≡ Ok tt → (es : List Entry) (b : List ℕ)
       → (before : List (List ℕ)) (m : List ℕ) (behind : List (List ℕ)) → messages_of b ≡ before ++ (m ∷ behind)
       → length before ≤ (receive_packet s (after_entries s x es) b).answer.taken
       → (length before < (receive_packet s (after_entries s x es) b).answer.taken)
       ↔ (WellFormed (sizes_of s) m
       × ((w : Trace (sizes_of s)) × AdmitsAll (sizes_of s) w (accepted_in s x es ++ map meaning_of before) × Admits (sizes_of s) w (meaning_of m)))
-  pub stand : (s : List ℕ) (x : State) → (open_state s x).answer ≡ Done → (es ds : List Entry) (r t : ℕ) → r < (policy_of s).rules → t < (sizes_of s).minutes
+  pub stand : (s : List ℕ) (x : State) → (open_state s x).answer ≡ Ok tt → (es ds : List Entry) (r t : ℕ) → r < (policy_of s).rules → t < (sizes_of s).minutes
       → shown (policy_of s) (after_entries s x es) r t ≢ 0
       → shown (policy_of s) (after_entries s x (es ++ ds)) r t ≡ shown (policy_of s) (after_entries s x es) r t
-  pub truth : (s : List ℕ) (x : State) → (open_state s x).answer ≡ Done → (es : List Entry) (r t : ℕ) → r < (policy_of s).rules → t < (sizes_of s).minutes
+  pub truth : (s : List ℕ) (x : State) → (open_state s x).answer ≡ Ok tt → (es : List Entry) (r t : ℕ) → r < (policy_of s).rules → t < (sizes_of s).minutes
       → shown (policy_of s) (after_entries s x es) r t ≢ 0 → (w : Trace (sizes_of s)) → AdmitsAll (sizes_of s) w (accepted_in s x es)
       → Plain (policy_of s) w r t (shown (policy_of s) (after_entries s x es) r t)
   -- two lists that offer the same well_formed slips, in takes or in packets
-  pub same : (s : List ℕ) (x y : State) → (open_state s x).answer ≡ Done → (open_state s y).answer ≡ Done → (xs ys : List Entry)
+  pub same : (s : List ℕ) (x y : State) → (open_state s x).answer ≡ Ok tt → (open_state s y).answer ≡ Ok tt → (xs ys : List Entry)
       → ((b : List ℕ) → WellFormed (sizes_of s) b → Offered b (takes_of s x xs) ↔ Offered b (takes_of s y ys))
       → (w : Trace (sizes_of s))
       → ((b : List ℕ) → Offered b (takes_of s x xs) → WellFormed (sizes_of s) b → Admits (sizes_of s) w (meaning_of b))
       → Same s x y (takes_of s x xs) (takes_of s y ys) × (after_entries s x xs ≡ after_entries s y ys)
   -- and where all that they bring is well_formed and some one shift could have sent it, no matter how it is packed: all of it is taken, and the state is
   -- the same
-  pub repacked : (s : List ℕ) (x y : State) → (open_state s x).answer ≡ Done → (open_state s y).answer ≡ Done → (xs ys : List Entry)
+  pub repacked : (s : List ℕ) (x y : State) → (open_state s x).answer ≡ Ok tt → (open_state s y).answer ≡ Ok tt → (xs ys : List Entry)
       → ((b : List ℕ) → Brought b xs ↔ Brought b ys)
       → (w : Trace (sizes_of s))
       → ((b : List ℕ) → Brought b xs → WellFormed (sizes_of s) b × Admits (sizes_of s) w (meaning_of b))
@@ -418,7 +403,7 @@ pub record Writers : Type 0 where
   -- "Reading gives the fields again, and writing an accepted card or slip gives its own bytes"; and the readers accept the texts and no other bytes
   pub policies : PolicyRoundTrip
   pub messages : (z : Sizes) → SizesIn z → MessageRoundTrip z
-  pub under_policy : (s : List ℕ) → policy_answer s ≡ C.Accepted → SizesIn (sizes_of s) × Encodes s
+  pub under_policy : (s : List ℕ) → policy_answer s ≡ Ok tt → SizesIn (sizes_of s) × Encodes s
 
 -- ---- known busy and known quiet (02, request 4)
 
@@ -428,10 +413,10 @@ pub record Writers : Type 0 where
 pub record TimePoints : Type 0 where
   pub of_record : (z : Sizes) (k : Knowledge) → Sound z k → (t : ℕ) → t < z.minutes → ExactPoints z k t
   -- so, after any list of takes from a fresh record: exactly when it is so in every shift that could have sent the slips accepted
-  pub busy : (s : List ℕ) (x : State) → (open_state s x).answer ≡ Done → (cs : List Call) (t : ℕ) → t < (sizes_of s).minutes
+  pub busy : (s : List ℕ) (x : State) → (open_state s x).answer ≡ Ok tt → (cs : List Call) (t : ℕ) → t < (sizes_of s).minutes
       → KnownPoint (sizes_of s) (after s x cs).known t
       ↔ ((w : Trace (sizes_of s)) → AdmitsAll (sizes_of s) w (accepted s x cs) → time_point (sizes_of s) w t ≡ true)
-  pub quiet : (s : List ℕ) (x : State) → (open_state s x).answer ≡ Done → (cs : List Call) (t : ℕ) → t < (sizes_of s).minutes
+  pub quiet : (s : List ℕ) (x : State) → (open_state s x).answer ≡ Ok tt → (cs : List Call) (t : ℕ) → t < (sizes_of s).minutes
       → KnownNone (sizes_of s) (after s x cs).known t
       ↔ ((w : Trace (sizes_of s)) → AdmitsAll (sizes_of s) w (accepted s x cs) → time_point (sizes_of s) w t ≡ false)
 
@@ -456,14 +441,14 @@ run_lendings x (c ∷ cs) = run_lendings (lending_state x c) cs
 
 -- no opening of the list is done, from x on
 abbrev pub NoneDone : State → List Lending → Type 0
-NoneDone x cs = (us : List Lending) (s : List ℕ) (vs : List Lending) → cs ≡ us ++ (Opening s ∷ vs) → (open_state s (run_lendings x us)).answer ≡ Done → ⊥
+NoneDone x cs = (us : List Lending) (s : List ℕ) (vs : List Lending) → cs ≡ us ++ (Opening s ∷ vs) → (open_state s (run_lendings x us)).answer ≡ Ok tt → ⊥
 
 -- the last opening of the list that is done is under the card s
 pub record LastDone (x : State) (cs : List Lending) (s : List ℕ) : Type 0 where
   pub before : List Lending
   pub behind : List Lending
   pub cut : cs ≡ before ++ (Opening s ∷ behind)
-  pub done : (open_state s (run_lendings x before)).answer ≡ Done
+  pub done : (open_state s (run_lendings x before)).answer ≡ Ok tt
   pub none_later : NoneDone (open_state s (run_lendings x before)).state behind
 
 -- the call is let past 12: none of the checks up to it, 1 to 5 and 12, refuses it
@@ -471,7 +456,7 @@ abbrev pub PastTwelve : Checked → Type 0
 PastTwelve a = (n at : ℕ) → RefusedWith a n at → (6 ≤ n) × (n ≢ 12)
 
 -- and the same of a packet
-abbrev pub StoppedPastTwelve : Stop → Type 0
+abbrev pub StoppedPastTwelve : Option Stopped → Type 0
 StoppedPastTwelve e = (n at : ℕ) → StoppedWith e n at → (6 ≤ n) × (n ≢ 12)
 
 -- those takes and packets of a list that are lent the card r
@@ -483,9 +468,9 @@ own r (Packing s b ∷ cs) = cond (same_bytes s r) (Packet b ∷ own r cs) (own 
 
 pub record OnePolicy : Type 0 where
   -- in demand 3's lists, where every take is lent the card of the opening, 12 is never answered: what is refused there is refused with 7, 8 or 9
-  pub takes : (s : List ℕ) (x : State) → (open_state s x).answer ≡ Done → (cs : List Call) (b : List ℕ) (n at : ℕ)
+  pub takes : (s : List ℕ) (x : State) → (open_state s x).answer ≡ Ok tt → (cs : List Call) (b : List ℕ) (n at : ℕ)
       → RefusedWith (reply (receive s (after s x cs) b).answer) n at → (7 ≤ n) × (n ≤ 9)
-  pub packets : (s : List ℕ) (x : State) → (open_state s x).answer ≡ Done → (es : List Entry) (b : List ℕ) (n at : ℕ)
+  pub packets : (s : List ℕ) (x : State) → (open_state s x).answer ≡ Ok tt → (es : List Entry) (b : List ℕ) (n at : ℕ)
       → StoppedWith (receive_packet s (after_entries s x es) b).answer.stop n at → (7 ≤ n) × (n ≤ 9)
   -- in any list, from any buffers, some opening that is done is the last, or none is
   pub opened : (x : State) (cs : List Lending) → ((r : List ℕ) × LastDone x cs r) ⊎ NoneDone x cs
@@ -512,14 +497,14 @@ FullSheet s w x ms = (r t : ℕ) → r < (policy_of s).rules → time_point (siz
 pub record CompleteShifts : Type 1 where
   -- "Call a line's reach 0 for true and marks, the larger of its operands' reaches for others, plus upper for until, eventually and always": `reach_from` has
   -- a line for each kind, and the operands' reaches are the reaches of these lines
-  pub reaches : (s : List ℕ) → policy_answer s ≡ C.Accepted → (l : ℕ)
+  pub reaches : (s : List ℕ) → policy_answer s ≡ Ok tt → (l : ℕ)
       → reach (formula_at (policy_of s)) l ≡ reach_from (reach (formula_at (policy_of s))) (formula_at (policy_of s) l)
   -- the call that gives them, one for each rule
   pub asked : (s out : List ℕ) → ReachCauses s out (rule_reaches s out)
   -- "Show: if every minute is known busy or quiet and every mark is known at every busy minute, then each busy minute t with t + reach below M has a verdict"
-  pub of_record : (s : List ℕ) → policy_answer s ≡ C.Accepted → (k : Knowledge) → Complete (sizes_of s) Every k → NoBlanks (policy_of s) k
+  pub of_record : (s : List ℕ) → policy_answer s ≡ Ok tt → (k : Knowledge) → Complete (sizes_of s) Every k → NoBlanks (policy_of s) k
   -- and already where only the marks are known that lines of the card name
-  pub of_named : (s : List ℕ) → policy_answer s ≡ C.Accepted → (k : Knowledge) → Complete (sizes_of s) (Named (policy_of s)) k → NoBlanks (policy_of s) k
+  pub of_named : (s : List ℕ) → policy_answer s ≡ Ok tt → (k : Knowledge) → Complete (sizes_of s) (Named (policy_of s)) k → NoBlanks (policy_of s) k
   -- a verdict that a sound record gives, of 32-bit facts, is the plain two-valued one in every shift that fits it
   pub truth : (s : List ℕ) (k : Knowledge) → Sound (sizes_of s) k → ((i : ℕ) → get_or k.facts i 0 < 4294967296) → (r t : ℕ)
       → verdict (policy_of s) k r t ≢ 0 → (w : Trace (sizes_of s)) → Agrees (sizes_of s) w k → Plain (policy_of s) w r t (verdict (policy_of s) k r t)
@@ -530,17 +515,17 @@ pub record CompleteShifts : Type 1 where
       → shown (policy_of s) (receive s x b).state r t ≢ 0
   -- "When all stations have reported": after demand 3's lists, where the slips accepted hold, for each station of the shift w, an observation that names the
   -- marks at each of its observations below M, and an alive at M
-  pub reported : (s : List ℕ) (x : State) → (open_state s x).answer ≡ Done → (cs : List Call) (P : ℕ → Type 0) (w : Trace (sizes_of s))
+  pub reported : (s : List ℕ) (x : State) → (open_state s x).answer ≡ Ok tt → (cs : List Call) (P : ℕ → Type 0) (w : Trace (sizes_of s))
       → Reports (sizes_of s) P w (λ m. Memᴰ m (accepted s x cs)) → AllTold (sizes_of s) P w (after s x cs).known
   -- in lists that hold packets too
-  pub reported_packets : (s : List ℕ) (x : State) → (open_state s x).answer ≡ Done → (es : List Entry) (P : ℕ → Type 0) (w : Trace (sizes_of s))
+  pub reported_packets : (s : List ℕ) (x : State) → (open_state s x).answer ≡ Ok tt → (es : List Entry) (P : ℕ → Type 0) (w : Trace (sizes_of s))
       → Reports (sizes_of s) P w (λ m. Memᴰ m (accepted_in s x es)) → AllTold (sizes_of s) P w (after_entries s x es).known
   -- and it is enough that they are offered, where w could have sent every well_formed slip of the list
-  pub offered : (s : List ℕ) (x : State) → (open_state s x).answer ≡ Done → (cs : List Call) (P : ℕ → Type 0) (w : Trace (sizes_of s))
+  pub offered : (s : List ℕ) (x : State) → (open_state s x).answer ≡ Ok tt → (cs : List Call) (P : ℕ → Type 0) (w : Trace (sizes_of s))
       → ((b : List ℕ) → Offered b cs → WellFormed (sizes_of s) b → Admits (sizes_of s) w (meaning_of b))
       → Reports (sizes_of s) P w (Sends (sizes_of s) cs) → AllTold (sizes_of s) P w (after s x cs).known
   -- "packers expect a full sheet"
-  pub full : (s : List ℕ) (x : State) → (open_state s x).answer ≡ Done → (cs : List Call) (w : Trace (sizes_of s))
+  pub full : (s : List ℕ) (x : State) → (open_state s x).answer ≡ Ok tt → (cs : List Call) (w : Trace (sizes_of s))
       → AllTold (sizes_of s) (Named (policy_of s)) w (after s x cs).known → FullSheet s w (after s x cs) (accepted s x cs)
-  pub full_packets : (s : List ℕ) (x : State) → (open_state s x).answer ≡ Done → (es : List Entry) (w : Trace (sizes_of s))
+  pub full_packets : (s : List ℕ) (x : State) → (open_state s x).answer ≡ Ok tt → (es : List Entry) (w : Trace (sizes_of s))
       → AllTold (sizes_of s) (Named (policy_of s)) w (after_entries s x es).known → FullSheet s w (after_entries s x es) (accepted_in s x es)

@@ -2,15 +2,15 @@
 use Prim.Native.Nat.{ℕ}
 use mathlib.Core.Path.{◌≡◌, ap, ap₂, ◌∙◌}
 use mathlib.Core.List.{List}
-use Rattle.refusal.specs.declared.Written.{Written}
+use Rattle.refusal.specs.Writes.{Written}
 use Rattle.refusal.specs.Writes.{Output}
 use Rattle.policy.specs.declared.LineNumbers.{LineNumbers}
 use Rattle.policy.specs.Text.{encode_of}
 use Rattle.line_table.specs.Table.{lines_from}
-use Rattle.c_answers.specs.Returned.{policy_numbers, written_number, written_detail, ReturnedText, returned_text}
+use Rattle.c_answers.specs.Returned.{policy_numbers, number_of, detail_of, ReturnedText, returned_text}
 
 -- a writer's outcome handed on
-pub handed_text : (w : Written) (out : List ℕ) (o : Output) (r d : ℕ) → ◌≡◌ {A = Output} (record { answer = w; out = out }) o → d ≡ written_detail w → r ≡ written_number w
+pub handed_text : (w : Written) (out : List ℕ) (o : Output) (r d : ℕ) → ◌≡◌ {A = Output} (record { answer = w; out = out }) o → d ≡ detail_of (λ n. n) w → r ≡ number_of w
     → ◌≡◌ {A = ReturnedText} (record { number = r; detail = d; out = out }) (returned_text o)
 handed_text w out o r d e f g =
     ap₂ {C = ReturnedText} (λ (n m : ℕ). record { number = n; detail = m; out = out }) g f ∙ ap returned_text e

@@ -1,3 +1,2 @@
 -- What the proofs of the exported calls share.
-mod Handing
 mod Lending

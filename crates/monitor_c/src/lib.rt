@@ -12,15 +12,24 @@ ghost use Rattle.policy.specs.Text.{encode_of as encode_policy};
 ghost use Rattle.message.specs.Text.{encode_of as encode_message};
 ghost use Rattle.rule_text.specs.Compiled.{compile_of};
 ghost use Rattle.reach.specs.Reaches.{rule_reaches};
-ghost use Rattle.c_answers.specs.Returned.{Returned, returned, ReturnedPacket, returned_packet, look_number, look_detail, ReturnedText, returned_text, policy_numbers, message_numbers};
+ghost use Rattle.c_answers.specs.Returned.{Returned, returned_opening, returned, ReturnedPacket, returned_packet, number_of, detail_of, look_detail, ReturnedText, returned_text, policy_numbers, message_numbers};
 
-use c_answers::{
-    answer_detail, answer_number, look_detail, look_number, stop_number, stop_place,
-    written_detail, written_number,
-};
 use line_table::{NUMBERS, lines_from};
 use message::MessageNumbers;
+use monitor::Buffers;
 use policy::PolicyNumbers;
+use refusal::Refusal;
+
+// Tells the answer of a call that gives a number: its detail is written, and its number given.
+fn told(answer: Result<usize, Refusal>, detail: &mut usize) -> u8
+    ensures number { result ≡ number_of answer }
+    ensures detail { detail.new ≡ detail_of (λ n. n) answer }
+{
+    *detail = c_answers::detail(answer);
+    c_answers::number(answer)
+}
+
+// The buffers and sizes come one by one, as C lends them.
 
 // 01: an opening.
 #[unsafe(no_mangle)]
@@ -36,11 +45,19 @@ pub extern "C" fn zankezurt_open(
 ) -> u8
     ensures { ◌≡◌ {A = Returned}
         (record { number = result; detail = detail.new; state = lent numbers.new facts.new valuation.new verdicts.new (stamped origin.new extent.new) })
-        (returned (open_state policy.now (lent numbers.old facts.old valuation.old verdicts.old (stamped origin.old extent.old)))) }
+        (returned_opening (open_state policy.now (lent numbers.old facts.old valuation.old verdicts.old (stamped origin.old extent.old)))) }
 {
-    let answer = monitor_calls::open(policy, numbers, facts, valuation, verdicts, origin, extent);
-    *detail = answer_detail(answer);
-    answer_number(answer)
+    let buffers = Buffers {
+        numbers,
+        facts,
+        valuation,
+        verdicts,
+        origin,
+        extent,
+    };
+    let answer = monitor_calls::open(policy, buffers);
+    *detail = c_answers::detail(answer.map(|()| 0));
+    c_answers::number(answer)
 }
 
 // 01: a take.
@@ -60,11 +77,16 @@ pub extern "C" fn zankezurt_receive(
         (record { number = result; detail = detail.new; state = lent numbers.new facts.new valuation.new verdicts.new (stamped origin.new extent.new) })
         (returned (receive policy.now (lent numbers.old facts.old valuation.old verdicts.old (stamped origin.old extent.old)) message.now)) }
 {
-    let answer = monitor_calls::receive(
-        policy, message, numbers, facts, valuation, verdicts, origin, extent,
-    );
-    *detail = answer_detail(answer);
-    answer_number(answer)
+    let buffers = Buffers {
+        numbers,
+        facts,
+        valuation,
+        verdicts,
+        origin,
+        extent,
+    };
+    let answer = monitor_calls::receive(policy, message, buffers);
+    told(answer, detail)
 }
 
 // 02, request 1: a packet.
@@ -85,13 +107,19 @@ pub extern "C" fn zankezurt_receive_packet(
         (record { number = result; taken = taken.new; place = place.new; state = lent numbers.new facts.new valuation.new verdicts.new (stamped origin.new extent.new) })
         (returned_packet (receive_packet policy.now (lent numbers.old facts.old valuation.old verdicts.old (stamped origin.old extent.old)) packet.now)) }
 {
-    let answer = monitor_calls::receive_packet(
-        policy, packet, numbers, facts, valuation, verdicts, origin, extent,
-    );
+    let buffers = Buffers {
+        numbers,
+        facts,
+        valuation,
+        verdicts,
+        origin,
+        extent,
+    };
+    let answer = monitor_calls::receive_packet(policy, packet, buffers);
     let stop = answer.stop;
     *taken = answer.taken;
-    *place = stop_place(stop);
-    stop_number(stop)
+    *place = c_answers::stop_place(stop);
+    c_answers::stop_number(stop)
 }
 
 // 01: a look.
@@ -103,12 +131,12 @@ pub extern "C" fn zankezurt_lookup(
     minute: usize,
     detail: &mut usize,
 ) -> u8
-    ensures value { result ≡ look_number (lookup_of policy.now verdicts.now rule minute) }
+    ensures value { result ≡ number_of (lookup_of policy.now verdicts.now rule minute) }
     ensures detail_after { detail.new ≡ look_detail (lookup_of policy.now verdicts.now rule minute) }
 {
     let look = monitor_lookup::lookup(policy, verdicts, rule, minute);
-    *detail = look_detail(look);
-    look_number(look)
+    *detail = c_answers::detail(look.map(usize::from));
+    c_answers::number(look)
 }
 
 // 02, request 3: writes a policy.
@@ -128,15 +156,14 @@ pub extern "C" fn zankezurt_encode_policy(
 {
     let lines = lines_from(fields);
     let numbers = PolicyNumbers {
-        propositions: propositions,
-        components: components,
-        minutes: minutes,
-        count: count,
-        lines: lines,
+        propositions,
+        components,
+        minutes,
+        count,
+        lines,
     };
     let written = policy_codec::encode(numbers, out);
-    *detail = written_detail(written);
-    written_number(written)
+    told(written, detail)
 }
 
 // 02, request 3: writes a message under a policy.
@@ -165,8 +192,7 @@ pub extern "C" fn zankezurt_encode_message(
         values: values,
     };
     let written = message_codec::encode_numbers(policy, numbers, out);
-    *detail = written_detail(written);
-    written_number(written)
+    told(written, detail)
 }
 
 // 02, request 7: writes the policy of a rule typed as text.
@@ -184,8 +210,7 @@ pub extern "C" fn zankezurt_compile_rule(
         (returned_text (compile_of propositions components minutes text.now out.old)) }
 {
     let written = rule_parser::compile(text, propositions, components, minutes, out);
-    *detail = written_detail(written);
-    written_number(written)
+    told(written, detail)
 }
 
 // 02, request 8: writes the reach of each rule of a policy.
@@ -196,8 +221,7 @@ pub extern "C" fn zankezurt_rule_reaches(policy: &[u8], out: &mut [u16], detail:
         (returned_text (rule_reaches policy.now out.old)) }
 {
     let written = reach::rule_reaches(policy, out);
-    *detail = written_detail(written);
-    written_number(written)
+    told(written, detail)
 }
 
 // The version of the library, 0.2.0: 10,000 times the major number, 100 times the minor, and the patch.

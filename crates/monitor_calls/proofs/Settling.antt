@@ -1,4 +1,5 @@
 -- What the working functions leave, put together: both sheets over what is known, and a fresh state. Assumes nothing.
+use Rattle.std.specs.Prelude.{Ok}
 use mathlib.Core.Path.{◌≡◌, refl, sym, ap, ap₂, ◌∙◌}
 use mathlib.Core.Bool.{cond}
 use mathlib.Core.List.{List, ◌++◌, append-nil}
@@ -15,7 +16,6 @@ use Rattle.knowledge.specs.Run.{held, SteadyRuns, PointRow}
 use Rattle.knowledge.proofs.Runs.{runs_of}
 use Rattle.valuation.specs.Rows.{Points}
 use Rattle.valuation.specs.Sheets.{valuation_of, verdicts_of, standing}
-use Rattle.monitor.specs.declared.Answer.TheVariants.{Received}
 use Rattle.origin.specs.Origin.{Origin}
 use Rattle.monitor.specs.State.{Outcome, lent, outcome, SizedSheets, opened, rewritten}
 use Rattle.monitor.proofs.Laws.{fresh_sound, sheet_lengths, blank_sheet, lengths}
@@ -55,7 +55,7 @@ module _ (p : Policy) (proper : Proper p) (n f v d : List ℕ) (z : SizedSheets 
       → ((y : Knowledge) → y.facts ≡ f → Points p.sizes y points → v' ≡ valuation_of p y ++ drop (p.count * p.sizes.minutes) v)
       → ((y : Knowledge) → Points p.sizes y points → take (p.count * p.sizes.minutes) v' ≡ valuation_of p y
       → (d' ≡ verdicts_of p y ++ drop (p.rules * p.sizes.minutes) d) × (r ≡ standing (verdicts_of p y)))
-      → (o : Origin) → outcome (Received r) n f v' d' o ≡ rewritten p o (held n f)
+      → (o : Origin) → outcome (Ok r) n f v' d' o ≡ rewritten p o (held n f)
   rewrites v' d' points r row w u o =
       let x : v' ≡ valuation_of p (held n f) = evaluated p (held n f) points row v v' z.valuation w in
       let c = concluded p (held n f) points row v' d d' r x z.verdicts u in
@@ -63,7 +63,7 @@ module _ (p : Policy) (proper : Proper p) (n f v d : List ℕ) (z : SizedSheets 
 
 -- what both sheets leave, from numbers and facts that are those of some knowledge
 pub rewritten_of : (p : Policy) (o : Origin) (k : Knowledge) (n f v d : List ℕ) (r : ℕ) → n ≡ k.numbers → f ≡ k.facts
-    → outcome (Received r) n f v d o ≡ rewritten p o (held n f) → outcome (Received r) n f v d o ≡ rewritten p o k
+    → outcome (Ok r) n f v d o ≡ rewritten p o (held n f) → outcome (Ok r) n f v d o ≡ rewritten p o k
 rewritten_of p o k n f v d r a b e = e ∙ ap₂ (λ (x y : List ℕ). rewritten p o (held x y)) a b
 
 -- ---- an opening
@@ -91,8 +91,8 @@ module _ (p : Policy) (n f v d : List ℕ) (z : SizedSheets p (held n f) v d) wh
       rw (fresh_numbers n' a, all_zero f' b) (fresh_sound p),
     )
 
-    pub refreshed : (v' d' : List ℕ) (r : ℕ) → ((o : Origin) → outcome (Received r) n' f' v' d' o ≡ rewritten p o (held n' f')) → (o : Origin) → lent n' f' v' d' o ≡ opened p o
+    pub refreshed : (v' d' : List ℕ) (r : ℕ) → ((o : Origin) → outcome (Ok r) n' f' v' d' o ≡ rewritten p o (held n' f')) → (o : Origin) → lent n' f' v' d' o ≡ opened p o
     unfolding opened
     refreshed v' d' r e o =
-        ap (λ (q : Outcome). q.state) (rewritten_of p o (fresh p.sizes) n' f' v' d' r (fresh_numbers n' a) (all_zero f' b) (e o))
+        ap (λ (q : Outcome ℕ). q.state) (rewritten_of p o (fresh p.sizes) n' f' v' d' r (fresh_numbers n' a) (all_zero f' b) (e o))
         ∙ ap (λ (l : List ℕ). record { known = fresh p.sizes; valuation = valuation_of p (fresh p.sizes); verdicts = l; origin = o }) (sym (blank_sheet p))

@@ -1,23 +1,26 @@
 // The calls: a record opened, a message or a packet taken.
 #![tactic(auto)]
 
-ghost use Rattle.std.specs.Prelude.{◌≡◌, ◌+◌, ◌*◌};
+ghost use Rattle.std.specs.Prelude.{◌≡◌, ◌+◌, ◌*◌, Ok};
 ghost use Rattle.policy.specs.Proper.{Proper};
 ghost use Rattle.message.specs.Format.{messages_of};
+ghost use Rattle.message.specs.Fixes.{Fits};
 ghost use Rattle.knowledge.specs.Knowledge.{Sound, Sized as Long};
 ghost use Rattle.knowledge.specs.Laws.{Limits};
 ghost use Rattle.knowledge.specs.Run.{held};
-ghost use Rattle.origin.specs.Origin.{Origin, stamped};
-ghost use Rattle.monitor.specs.State.{lent, outcome, SizedSheets, opened, rewritten, take_message, open_state, receive, packet_outcome, receive_packet};
-ghost use Rattle.monitor.specs.Storing.{Ranged, stored_as, store_message, settle_message, stored_packet, store_each, take_packet};
+ghost use Rattle.origin.specs.Origin.{Origin};
+ghost use Rattle.monitor.specs.State.{lent, given, outcome, ended, ended_packet, SizedSheets, opened, rewritten, take_message, open_state, receive, packet_outcome, receive_packet};
+ghost use Rattle.monitor.specs.Storing.{Ranged, stored_as, store_message, store_read, stored_packet, store_each, take_packet};
 
 use knowledge_store::{clear_facts, clear_numbers};
-use monitor::{Answer, Lengths, PacketAnswer, Stop};
+use message::Message;
+use monitor::{Buffers, PacketAnswer, Stopped};
 use monitor_checks::{check_record, check_sizes};
-use policy::{Decoded, Policy, Sizes};
+use policy::{Policy, Sizes};
 use refusal::Refusal;
 
-// Rewrites both sheets whole from the record; answers how many verdicts stand.
+// Rewrites both sheets whole from the record; answers how many verdicts stand. The buffers come here and below one by one: `Buffers` that is handed
+// on whole leaves its caller without what became of them.
 fn rewrite_sheets(
     policy: Policy,
     numbers: &[u16],
@@ -28,7 +31,7 @@ fn rewrite_sheets(
     requires { (Proper policy)
         × SizedSheets policy (held numbers.now facts.now) valuation.old verdicts.old
         × Sound policy.sizes (held numbers.now facts.now) }
-    ensures { (o : Origin) → outcome (Answer.Received result) numbers.now facts.now valuation.new verdicts.new o
+    ensures { (o : Origin) → outcome (Ok result) numbers.now facts.now valuation.new verdicts.new o
         ≡ rewritten policy o (held numbers.now facts.now) }
 {
     let sizes = policy.sizes;
@@ -56,93 +59,42 @@ fn refresh(
 }
 
 // Opens the lent state under a policy (01: an opening), whatever the buffers held.
-pub fn open(
-    policy: &[u8],
-    numbers: &mut [u16],
-    facts: &mut [u32],
-    valuation: &mut [u8],
-    verdicts: &mut [u8],
-    origin: &mut [u8],
-    extent: &mut u16,
-) -> Answer
-    ensures { outcome result numbers.new facts.new valuation.new verdicts.new (stamped origin.new extent.new)
-        ≡ open_state policy.now (lent numbers.old facts.old valuation.old verdicts.old (stamped origin.old extent.old)) }
+pub fn open(policy: &[u8], buffers: Buffers) -> Result<(), Refusal>
+    ensures { ended result buffers.exit ≡ open_state policy.now (given buffers.entry) }
 {
-    let lengths = Lengths {
-        numbers: numbers.len(),
-        facts: facts.len(),
-        valuation: valuation.len(),
-        verdicts: verdicts.len(),
-        origin: origin.len(),
-    };
-    let checked = check_sizes(policy, lengths);
-    let answer = checked.answer;
-    match answer {
-        refusal::Answer::Refused(r) => Answer::Refused(r),
-        refusal::Answer::Accepted => {
-            let p = checked.policy;
-            refresh(p, numbers, facts, valuation, verdicts);
-            origin::stamp(policy, origin, extent);
-            Answer::Done
-        }
-    }
+    let p = check_sizes(policy, buffers.lengths())?;
+    let Buffers {
+        numbers,
+        facts,
+        valuation,
+        verdicts,
+        origin,
+        extent,
+    } = buffers;
+    refresh(p, numbers, facts, valuation, verdicts);
+    origin::stamp(policy, origin, extent);
+    Ok(())
 }
 
-// Stores a message that was read and goes with what is known, or says why it is turned away.
+// Stores a message that goes with what is known, or says why it is turned away.
 fn store_message(
     sizes: Sizes,
-    decoded: message::Decoded,
+    message: Message,
     numbers: &mut [u16],
     facts: &mut [u32],
-) -> refusal::Answer
+) -> Result<(), Refusal>
     requires { Limits sizes
         × Long sizes (held numbers.old facts.old)
         × Sound sizes (held numbers.old facts.old)
-        × Ranged sizes decoded }
+        × Fits sizes message }
     ensures { stored_as result numbers.new facts.new
-        ≡ store_message sizes (held numbers.old facts.old) decoded }
+        ≡ store_message sizes (held numbers.old facts.old) message }
 {
-    let answer = decoded.answer;
-    match answer {
-        refusal::Answer::Refused(_) => answer,
-        refusal::Answer::Accepted => {
-            let component = decoded.component;
-            let event = decoded.event;
-            if !knowledge_store::admits_message(sizes, numbers, facts, component, event) {
-                return refusal::Answer::Refused(Refusal::Conflict);
-            }
-            knowledge_store::store(sizes, numbers, facts, component, event);
-            answer
-        }
+    if !knowledge_store::admits_message(sizes, numbers, facts, message) {
+        return Err(Refusal::Conflict);
     }
-}
-
-// Stores a message and rewrites both sheets, or refuses it; answers how many verdicts stand.
-fn settle_message(
-    policy: Policy,
-    decoded: message::Decoded,
-    numbers: &mut [u16],
-    facts: &mut [u32],
-    valuation: &mut [u8],
-    verdicts: &mut [u8],
-) -> Answer
-    requires { (Proper policy)
-        × SizedSheets policy (held numbers.old facts.old) valuation.old verdicts.old
-        × Sound policy.sizes (held numbers.old facts.old)
-        × Ranged policy.sizes decoded }
-    ensures { (o : Origin) → outcome result numbers.new facts.new valuation.new verdicts.new o
-        ≡ settle_message policy
-        (lent numbers.old facts.old valuation.old verdicts.old o) decoded }
-{
-    let sizes = policy.sizes;
-    let stored = store_message(sizes, decoded, numbers, facts);
-    match stored {
-        refusal::Answer::Refused(r) => Answer::Refused(r),
-        refusal::Answer::Accepted => {
-            let standing = rewrite_sheets(policy, numbers, facts, valuation, verdicts);
-            Answer::Received { standing: standing }
-        }
-    }
+    knowledge_store::store(sizes, numbers, facts, message);
+    Ok(())
 }
 
 // Takes a message that stands alone: between the reader's 7 and its 8 it is tested that nothing follows it.
@@ -153,7 +105,7 @@ fn take_message(
     facts: &mut [u32],
     valuation: &mut [u8],
     verdicts: &mut [u8],
-) -> Answer
+) -> Result<usize, Refusal>
     requires { (Proper policy)
         × SizedSheets policy (held numbers.old facts.old) valuation.old verdicts.old
         × Sound policy.sizes (held numbers.old facts.old) }
@@ -164,39 +116,51 @@ fn take_message(
     let sizes = policy.sizes;
     let first = message_codec::first_step(message, sizes);
     if first.left != 0 {
-        return Answer::Refused(Refusal::TruncatedMessage(message.len() - first.left));
+        return Err(Refusal::TruncatedMessage(message.len() - first.left));
     }
-    let decoded = first.decoded;
-    settle_message(policy, decoded, numbers, facts, valuation, verdicts)
+    let read = first.decoded?;
+    store_message(sizes, read, numbers, facts)?;
+    Ok(rewrite_sheets(policy, numbers, facts, valuation, verdicts))
 }
 
 // Takes a message of any bytes into the lent state under a policy (01: a take).
-pub fn receive(
-    policy: &[u8],
-    message: &[u8],
-    numbers: &mut [u16],
-    facts: &mut [u32],
-    valuation: &mut [u8],
-    verdicts: &mut [u8],
-    origin: &mut [u8],
-    extent: &mut u16,
-) -> Answer
-    ensures { outcome result numbers.new facts.new valuation.new verdicts.new (stamped origin.new extent.new)
-        ≡ receive policy.now
-        (lent numbers.old facts.old valuation.old verdicts.old (stamped origin.old extent.old)) message.now }
+pub fn receive(policy: &[u8], message: &[u8], buffers: Buffers) -> Result<usize, Refusal>
+    ensures { ended result buffers.exit ≡ receive policy.now (given buffers.entry) message.now }
 {
-    let checked = check_record(policy, numbers, facts, valuation, verdicts, origin, *extent);
-    let answer = checked.answer;
-    match answer {
-        refusal::Answer::Refused(r) => Answer::Refused(r),
-        refusal::Answer::Accepted => {
-            let p = checked.policy;
-            take_message(p, message, numbers, facts, valuation, verdicts)
-        }
-    }
+    let Buffers {
+        numbers,
+        facts,
+        valuation,
+        verdicts,
+        origin,
+        extent,
+    } = buffers;
+    // A match, since through `?` the policy would be copied once more on the stack.
+    let p = match check_record(policy, numbers, facts, valuation, verdicts, origin, *extent) {
+        Ok(p) => p,
+        Err(refusal) => return Err(refusal),
+    };
+    take_message(p, message, numbers, facts, valuation, verdicts)
 }
 
-// Stores the messages of a packet until it ends or one is refused; the sheets are not worked.
+// Stores what was read as a message, or says why it was turned away.
+fn store_read(
+    sizes: Sizes,
+    read: Result<Message, Refusal>,
+    numbers: &mut [u16],
+    facts: &mut [u32],
+) -> Result<(), Refusal>
+    requires { Limits sizes
+        × Long sizes (held numbers.old facts.old)
+        × Sound sizes (held numbers.old facts.old)
+        × Ranged sizes read }
+    ensures { stored_as result numbers.new facts.new
+        ≡ store_read sizes (held numbers.old facts.old) read }
+{
+    store_message(sizes, read?, numbers, facts)
+}
+
+// Stores the messages of a packet until it ends or one is refused; the sheets are not worked. A while: how far a turn goes is its message's length.
 fn store_messages(
     sizes: Sizes,
     packet: &[u8],
@@ -213,25 +177,17 @@ fn store_messages(
     let mut at = 0;
     while at < packet.len() {
         let first = message_codec::first_step(&packet[at..], sizes);
-        let decoded = first.decoded;
-        let stored = store_message(sizes, decoded, numbers, facts);
-        if let refusal::Answer::Refused(r) = stored {
-            let place = refusal::place_in_packet(r, at);
+        if let Err(refusal) = store_read(sizes, first.decoded, numbers, facts) {
+            let place = refusal.place_in_packet(at);
             return PacketAnswer {
-                taken: taken,
-                stop: Stop::Refused {
-                    refusal: r,
-                    place: place,
-                },
+                taken,
+                stop: Some(Stopped { refusal, place }),
             };
         }
         at = packet.len() - first.left;
-        taken = taken + 1;
+        taken += 1;
     }
-    PacketAnswer {
-        taken: taken,
-        stop: Stop::AtEnd,
-    }
+    PacketAnswer { taken, stop: None }
 }
 
 // Stores the messages of a packet and works both sheets once, at the end, if at least one was taken.
@@ -260,33 +216,26 @@ fn take_packet(
 }
 
 // Takes the messages of a packet, which stand in it end to end, until it ends or one is refused (02, request 1).
-pub fn receive_packet(
-    policy: &[u8],
-    packet: &[u8],
-    numbers: &mut [u16],
-    facts: &mut [u32],
-    valuation: &mut [u8],
-    verdicts: &mut [u8],
-    origin: &mut [u8],
-    extent: &mut u16,
-) -> PacketAnswer
-    ensures { packet_outcome result numbers.new facts.new valuation.new verdicts.new (stamped origin.new extent.new)
-        ≡ receive_packet policy.now
-        (lent numbers.old facts.old valuation.old verdicts.old (stamped origin.old extent.old)) packet.now }
+pub fn receive_packet(policy: &[u8], packet: &[u8], buffers: Buffers) -> PacketAnswer
+    ensures { ended_packet result buffers.exit ≡ receive_packet policy.now (given buffers.entry) packet.now }
 {
-    let checked = check_record(policy, numbers, facts, valuation, verdicts, origin, *extent);
-    let answer = checked.answer;
-    match answer {
-        refusal::Answer::Refused(r) => PacketAnswer {
-            taken: 0,
-            stop: Stop::Refused {
-                refusal: r,
-                place: refusal::place(r),
-            },
-        },
-        refusal::Answer::Accepted => {
-            let p = checked.policy;
-            take_packet(p, packet, numbers, facts, valuation, verdicts)
+    let Buffers {
+        numbers,
+        facts,
+        valuation,
+        verdicts,
+        origin,
+        extent,
+    } = buffers;
+    let p = match check_record(policy, numbers, facts, valuation, verdicts, origin, *extent) {
+        Ok(p) => p,
+        Err(refusal) => {
+            let place = refusal.place();
+            return PacketAnswer {
+                taken: 0,
+                stop: Some(Stopped { refusal, place }),
+            };
         }
-    }
+    };
+    take_packet(p, packet, numbers, facts, valuation, verdicts)
 }

@@ -5,10 +5,10 @@ ghost use Rattle.std.specs.Prelude.{◌≡◌};
 ghost use Rattle.policy.specs.Proper.{Proper};
 ghost use Rattle.origin.specs.Origin.{stamped};
 ghost use Rattle.monitor.specs.State.{lent, sizes_fit, size_checks, record_checks};
-ghost use Rattle.monitor.specs.Checked.{Checks};
+ghost use Rattle.monitor.specs.Checked.{checked_policy};
 
 use monitor::Lengths;
-use policy::{Decoded, Policy};
+use policy::Policy;
 use refusal::Refusal;
 
 // Are the lent buffers of the policy's sizes?
@@ -34,27 +34,18 @@ fn fit(policy: Policy, lengths: Lengths) -> bool
 }
 
 // Reads the policy and checks the sizes of the lent buffers: 1 to 5, with which every call that is lent a state starts.
-pub fn check_sizes(policy: &[u8], lengths: Lengths) -> Decoded
-    ensures { Checks (size_checks policy.now lengths) policy.now result }
+pub fn check_sizes(policy: &[u8], lengths: Lengths) -> Result<Policy, Refusal>
+    ensures { result ≡ checked_policy (size_checks policy.now lengths) policy.now }
 {
-    let decoded = policy_codec::decode(policy);
-    let answer = decoded.answer;
-    match answer {
-        refusal::Answer::Refused(_) => decoded,
-        refusal::Answer::Accepted => {
-            let p = decoded.policy;
-            if !fit(p, lengths) {
-                return Decoded {
-                    answer: refusal::Answer::Refused(Refusal::BufferSize),
-                    policy: p,
-                };
-            }
-            decoded
-        }
+    let p = policy_codec::decode(policy)?;
+    if !fit(p, lengths) {
+        return Err(Refusal::BufferSize);
     }
+    Ok(p)
 }
 
 // And then that the lent record was opened under this policy and is sound: 1 to 5, 12 and 6, with which every call that is lent a record starts.
+// The buffers come one by one: where a call reads them through `&Buffers`, it is not proved what it leaves behind.
 pub fn check_record(
     policy: &[u8],
     numbers: &[u16],
@@ -63,9 +54,11 @@ pub fn check_record(
     verdicts: &[u8],
     origin: &[u8],
     extent: u16,
-) -> Decoded
-    ensures { Checks (record_checks policy.now (lent numbers.now facts.now valuation.now verdicts.now (stamped origin.now extent)))
-        policy.now result }
+) -> Result<Policy, Refusal>
+    ensures { result
+        ≡ checked_policy
+        (record_checks policy.now (lent numbers.now facts.now valuation.now verdicts.now (stamped origin.now extent)))
+        policy.now }
 {
     let lengths = Lengths {
         numbers: numbers.len(),
@@ -76,26 +69,12 @@ pub fn check_record(
     };
     // Made first, and asked for in its turn: the loops over the record then keep their registers.
     let own = origin::is_of(policy, origin, extent);
-    let checked = check_sizes(policy, lengths);
-    let answer = checked.answer;
-    match answer {
-        refusal::Answer::Refused(_) => checked,
-        refusal::Answer::Accepted => {
-            let p = checked.policy;
-            if !own {
-                return Decoded {
-                    answer: refusal::Answer::Refused(Refusal::OtherPolicy),
-                    policy: p,
-                };
-            }
-            let sizes = p.sizes;
-            if !knowledge_store::is_sound(sizes, numbers, facts) {
-                return Decoded {
-                    answer: refusal::Answer::Refused(Refusal::CorruptKnowledge),
-                    policy: p,
-                };
-            }
-            checked
-        }
+    let p = check_sizes(policy, lengths)?;
+    if !own {
+        return Err(Refusal::OtherPolicy);
     }
+    if !knowledge_store::is_sound(p.sizes, numbers, facts) {
+        return Err(Refusal::CorruptKnowledge);
+    }
+    Ok(p)
 }

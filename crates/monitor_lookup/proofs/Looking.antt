@@ -1,4 +1,5 @@
 -- The answers of a look, one for each way through its checks. Assumes nothing.
+use Rattle.std.specs.Prelude.{Err, Ok}
 use mathlib.Core.Path.{◌≡◌, refl, sym, ap, ◌∙◌}
 use mathlib.Core.List.{List}
 use Prim.Native.Nat.{ℕ, ◌+◌, ◌*◌, ◌≤◌, ◌<◌}
@@ -9,34 +10,32 @@ use borrow.Author.Tests.{eq-eqb, ne_eqb, lt-ltb, le-ltb}
 use Rattle.rows.proofs.Grid.{in_grid}
 use Rattle.refusal.specs.declared.Refusal.{Refusal}
 use Rattle.refusal.specs.declared.Refusal.TheVariants.{BufferSize, OutOfRange}
-use Rattle.refusal.specs.declared.Answer.{Answer as Checked}
-use Rattle.refusal.specs.declared.Answer.TheVariants as C
-use Rattle.refusal.specs.Checks.{first_failed, and_then}
+use Rattle.refusal.specs.Checks.{Checked}
+use Rattle.refusal.specs.Checks.{give_unless, first_failed, and_then}
 use Rattle.refusal.proofs.Laws.{in_order}
 use Rattle.policy.specs.Format.{policy_checks, answer_of, policy_of}
 use Rattle.policy.specs.declared.Policy.{Policy}
 use Rattle.policy.specs.Proper.{Proper}
 use Rattle.monitor.specs.declared.Verdict.{Verdict}
-use Rattle.monitor.specs.declared.Look.TheVariants.{Shows, Refused}
-use Rattle.monitor.specs.Lookup.{verdict_of, show_unless, sheet_checks, code_at, look_at, lookup_of}
+use Rattle.monitor.specs.Lookup.{verdict_of, sheet_checks, code_at, look_at, lookup_of}
 use Rattle.policy.specs.ReadPolicy.{Read}
 
 module _ (p : Policy) (v : List ℕ) (r t : ℕ) where
-  pub wrong_size : (length v ≡ p.rules * p.sizes.minutes → ⊥) → Refused BufferSize ≡ look_at p v r t
+  pub wrong_size : (length v ≡ p.rules * p.sizes.minutes → ⊥) → Err BufferSize ≡ look_at p v r t
   unfolding look_at
   wrong_size h = simp (ne_eqb (length v) (p.rules * p.sizes.minutes) h)
 
   module _ (s : length v ≡ p.rules * p.sizes.minutes) where
-    pub no_rule : p.rules ≤ r → Refused OutOfRange ≡ look_at p v r t
+    pub no_rule : p.rules ≤ r → Err OutOfRange ≡ look_at p v r t
     unfolding look_at
     no_rule h = simp (eq-eqb (length v) (p.rules * p.sizes.minutes) s, le-ltb r p.rules h)
 
     module _ (l : r < p.rules) where
-      pub no_minute : p.sizes.minutes ≤ t → Refused OutOfRange ≡ look_at p v r t
+      pub no_minute : p.sizes.minutes ≤ t → Err OutOfRange ≡ look_at p v r t
       unfolding look_at
       no_minute h = simp (eq-eqb (length v) (p.rules * p.sizes.minutes) s, lt-ltb r p.rules l, le-ltb t p.sizes.minutes h)
 
-      pub there : t < p.sizes.minutes → Shows (verdict_of (get_or v (r * p.sizes.minutes + t) 0)) ≡ look_at p v r t
+      pub there : t < p.sizes.minutes → Ok (verdict_of (get_or v (r * p.sizes.minutes + t) 0)) ≡ look_at p v r t
       unfolding look_at
       there h = simp (eq-eqb (length v) (p.rules * p.sizes.minutes) s, lt-ltb r p.rules l, lt-ltb t p.sizes.minutes h)
 
@@ -52,19 +51,19 @@ row_small p z r l = mul-le-mul {n₁ = r} {n₂ = 8} (let h = z.rules.high in om
 
 -- the look after its policy is read
 module _ (s v : List ℕ) (r t : ℕ) where
-  show_then : (a c : Checked) (x : Verdict) → show_unless (and_then a c) x ≡ elim a [ C.Accepted ↦ show_unless c x | C.Refused q ↦ Refused q ]
-  show_then C.Accepted c x = refl
-  show_then (C.Refused q) c x = refl
+  show_then : (a c : Checked) (x : Verdict) → give_unless (and_then a c) x ≡ elim a [ Ok u ↦ give_unless c x | Err q ↦ Err q ]
+  show_then (Ok _) c x = refl
+  show_then (Err q) c x = refl
 
-  looks : (a : Checked) → answer_of s ≡ a → elim a [ C.Accepted ↦ look_at (policy_of s) v r t | C.Refused q ↦ Refused q ] ≡ lookup_of s v r t
+  looks : (a : Checked) → answer_of s ≡ a → elim a [ Ok u ↦ look_at (policy_of s) v r t | Err q ↦ Err q ] ≡ lookup_of s v r t
   unfolding lookup_of look_at answer_of
   looks a e =
-      sym (ap (λ (c : Checked). show_unless c (verdict_of (code_at (policy_of s) v r t))) (in_order (policy_checks s) (sheet_checks (policy_of s) v r t))
+      sym (ap (λ (c : Checked). give_unless c (verdict_of (code_at (policy_of s) v r t))) (in_order (policy_checks s) (sheet_checks (policy_of s) v r t))
       ∙ show_then (first_failed (policy_checks s)) (first_failed (sheet_checks (policy_of s) v r t)) (verdict_of (code_at (policy_of s) v r t))
-      ∙ ap (λ (c : Checked). elim c [ C.Accepted ↦ show_unless (first_failed (sheet_checks (policy_of s) v r t)) (verdict_of (code_at (policy_of s) v r t)) | C.Refused q ↦ Refused q ]) e)
+      ∙ ap (λ (c : Checked). elim c [ Ok u ↦ give_unless (first_failed (sheet_checks (policy_of s) v r t)) (verdict_of (code_at (policy_of s) v r t)) | Err q ↦ Err q ]) e)
 
-  pub refused_look : (q : Refusal) → answer_of s ≡ C.Refused q → Refused q ≡ lookup_of s v r t
-  refused_look q e = looks (C.Refused q) e
+  pub refused_look : (q : Refusal) → answer_of s ≡ Err q → Err q ≡ lookup_of s v r t
+  refused_look q e = looks (Err q) e
 
   pub read_look : (p : Policy) → Read s p → look_at p v r t ≡ lookup_of s v r t
-  read_look p z = ap (λ (q : Policy). look_at q v r t) z.same ∙ looks C.Accepted z.card
+  read_look p z = ap (λ (q : Policy). look_at q v r t) z.same ∙ looks (Ok tt) z.card

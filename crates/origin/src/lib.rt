@@ -1,40 +1,18 @@
 // Which policy a state was opened under (02, request 5): the origin, 517 bytes with the policy's and then zeros, and the extent, the policy's length.
 #![tactic(auto)]
 
-ghost use Rattle.std.specs.Prelude.{◌≡◌, ◌≤◌, length, get_or};
+ghost use Rattle.std.specs.Prelude.{◌≡◌, ◌≤◌, ◌==◌, true, ◌&&◌, fold, length, get_or};
 ghost use Rattle.rows.specs.Grid.{table};
-ghost use Rattle.decide.specs.Decide.{Decides};
-ghost use Rattle.origin.specs.Origin.{stamped, origin_of, opened_under, Starts, ZeroFrom};
+ghost use Rattle.origin.specs.Origin.{stamped, origin_of, opened_under};
 
 // How many bytes an origin has: no policy is longer.
 pub const LENGTH: usize = 517;
 
-// Does the origin start with the policy's bytes?
-fn starts_with(origin: &[u8], policy: &[u8]) -> bool
-    requires { length policy.now ≤ length origin.now }
-    ensures { Decides result (Starts policy.now origin.now) }
+// Are these all 0? It looks at every byte and takes no way out, so that it is vector code; `all` leaves at the first that isn't.
+fn is_zero(bytes: &[u8]) -> bool
+    ensures { result ≡ fold (λ zero byte. zero && byte == 0) true bytes.now }
 {
-    let mut same = true;
-    let mut i = 0;
-    while i < policy.len() {
-        same = same & (origin[i] == policy[i]);
-        i += 1;
-    }
-    same
-}
-
-// Is it 0 from there on?
-fn is_zero_from(origin: &[u8], from: usize) -> bool
-    requires { from ≤ length origin.now }
-    ensures { Decides result (ZeroFrom from origin.now) }
-{
-    let mut zero = true;
-    let mut i = from;
-    while i < origin.len() {
-        zero = zero & (origin[i] == 0);
-        i += 1;
-    }
-    zero
+    bytes.iter().fold(true, |zero, byte| zero & (*byte == 0))
 }
 
 // Is this what opening the policy writes: its length, its bytes and then zeros? It says so of an origin of 517 bytes, and of a policy that has room
@@ -43,34 +21,18 @@ pub fn is_of(policy: &[u8], origin: &[u8], extent: u16) -> bool
     ensures { length policy.now ≤ 517 → length origin.now ≡ 517
         → result ≡ opened_under policy.now (stamped origin.now extent) }
 {
-    let length = policy.len();
-    if origin.len() < length {
-        return false;
-    }
-    if extent as usize != length {
-        return false;
-    }
-    starts_with(origin, policy) & is_zero_from(origin, length)
+    extent as usize == policy.len()
+        && origin.starts_with(policy)
+        && is_zero(&origin[policy.len()..])
 }
 
-// What the origin holds at a place: the policy's byte, and 0 past its end.
-fn origin_byte(policy: &[u8], place: usize) -> u8
-    ensures { result ≡ get_or policy.now place 0 }
-{
-    if place < policy.len() {
-        policy[place]
-    } else {
-        0
-    }
-}
-
+// What the origin holds at each place: the policy's byte, and 0 past its end. Byte by byte: of `copy_from_slice` the archive would have a call of
+// `memmove`, and it may call nothing but `memcpy` and `memset` (docs/EMBEDDING.md).
 fn fill(policy: &[u8], origin: &mut [u8])
     ensures { origin.new ≡ table (length origin.old) (λ i. get_or policy.now i 0) }
 {
-    let mut place = 0;
-    while place < origin.len() {
-        origin[place] = origin_byte(policy, place);
-        place += 1;
+    for (place, byte) in origin.iter_mut().enumerate() {
+        *byte = policy.get(place).copied().unwrap_or(0);
     }
 }
 

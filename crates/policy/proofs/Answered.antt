@@ -1,13 +1,12 @@
 -- Each number is answered exactly for its own cause, and acceptance for a whole card. Assumes nothing.
 use Prim.Native.Nat.{ℕ, ◌≤◌}
-use Rattle.std.specs.Prelude.{◌≡◌, ◌↔◌, List, ◌++◌}
+use Rattle.std.specs.Prelude.{◌≡◌, ◌↔◌, List, ◌++◌, Err}
 use Rattle.std.proofs.Common.{arith}
 use Rattle.std.proofs.Math.Logic.{⊎_elim}
 use borrow.Author.Tests.{leb-true, leb-false}
 use Rattle.std.proofs.Math.ListN.{length}
 use Rattle.refusal.specs.declared.Refusal.{Refusal}
 use Rattle.refusal.specs.declared.Refusal.TheVariants.{TruncatedPolicy, BadHeading, BadSubformula, RuleCount}
-use Rattle.refusal.specs.declared.Answer.TheVariants.{Refused}
 use Rattle.refusal.specs.Numbers.{refusal_number}
 use Rattle.refusal.specs.Checks.{Passed, pass, Refuses, here, there}
 use Rattle.refusal.proofs.Laws.{refusal_law, passing_law, refused_where, passed_parts}
@@ -34,7 +33,7 @@ module _ (s : List ℕ) where
 
   -- ---- the causes
 
-  pub refused : (r : Refusal) → (answer_of s ≡ Refused r) ↔ Cause s r
+  pub refused : (r : Refusal) → (answer_of s ≡ Err r) ↔ Cause s r
   unfolding answer_of
   refused r = (λ e. cause r ((refusal_law (policy_checks s) r).0 e), λ c. (refusal_law (policy_checks s) r).1 (refuses s r c))
 

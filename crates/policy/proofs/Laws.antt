@@ -1,6 +1,8 @@
 -- What a user may rely on: an accepted policy is proper and short, each refusal has its own cause, and decode hands out just that. Assumes
 -- nothing.
-use Rattle.std.specs.Prelude.{ℕ, zero, suc, ◌+◌, ◌*◌, ◌≤◌, ◌<◌, ◌≡◌, refl, List, length, get_or}
+use Rattle.refusal.specs.declared.Refusal.{Refusal}
+use Rattle.policy.specs.declared.Policy.{Policy}
+use Rattle.std.specs.Prelude.{ℕ, zero, suc, ◌+◌, ◌*◌, ◌≤◌, ◌<◌, ◌≡◌, List, length, get_or, Err, Ok, Result}
 use Rattle.std.proofs.Common.{sym, ap, subst, ◌∙◌, arith}
 use Rattle.std.proofs.Math.Decide.{dec_lt}
 use Rattle.encoding.specs.Fields.{has}
@@ -9,10 +11,9 @@ use Rattle.mtl.specs.declared.Formula.{Formula}
 use Rattle.mtl.specs.declared.Formula.TheVariants as F
 use Rattle.mtl.specs.Syntax.{Operands, Proposes, Bounded}
 use Rattle.policy.specs.declared.Subformula.{Subformula}
-use Rattle.refusal.specs.declared.Answer.{Answer}
-use Rattle.refusal.specs.declared.Answer.TheVariants.{Accepted, Refused}
-use Rattle.policy.specs.declared.Decoded.{Decoded}
-use Rattle.policy.specs.Format.{line_length, count_of, offset, with_answer, answer_of, policy_of, decode_of}
+use Rattle.refusal.specs.Checks.{Checked, give_unless, reply}
+use Rattle.refusal.proofs.Laws.{given, withheld, replied}
+use Rattle.policy.specs.Format.{line_length, count_of, offset, answer_of, policy_of, decode_of}
 use Rattle.policy.specs.Encoded.{IsPolicy}
 use Rattle.policy.proofs.KindLaws.{earlier_operands, its_proposition, its_interval}
 use Rattle.policy.specs.Proper.{Proper, formula_at}
@@ -30,7 +31,7 @@ by_lines s p P pad line i = go (dec_lt i (count_of s))
     go (yes h) = subst (λ (x : Subformula). P i x.formula) (sym (reads s p i h)) (line i h)
     go (no h) = subst (λ (x : Subformula). P i x.formula) (sym (past_lines s (count_of s) i (omega arith))) (pad i)
 
-pub accepted : (s : List ℕ) → answer_of s ≡ Accepted → Proper (policy_of s)
+pub accepted : (s : List ℕ) → answer_of s ≡ Ok tt → Proper (policy_of s)
 unfolding policy_of
 accepted s e =
     let p = (accepts s).0 e in
@@ -59,28 +60,30 @@ unfolding offset
 reaches s zero = omega arith
 reaches s (suc n) = omega (arith, reaches s n, line_short (get_or s (offset s n) 0))
 
-pub short : (s : List ℕ) → answer_of s ≡ Accepted → length s ≤ 517
+pub short : (s : List ℕ) → answer_of s ≡ Ok tt → length s ≤ 517
 short s e =
     let w = ((causes s).accepted.0 e).0 in
     omega (arith, reaches s (count_of s), w.ends, w.headed.heading.lines_in.high)
 
 -- ---- what decode hands out
 
-pub decoded_answer : (s : List ℕ) → (decode_of s).answer ≡ answer_of s
+pub decoded : (s : List ℕ) → answer_of s ≡ Ok tt → decode_of s ≡ Ok (policy_of s)
 unfolding decode_of
-decoded_answer s = go (answer_of s)
-  where
-    go : (a : _) → (with_answer a (policy_of s)).answer ≡ a
-    go Accepted = refl
-    go (Refused r) = refl
+decoded s e = ap (λ (a : Checked). give_unless a (policy_of s)) e
 
-pub decoded : (s : List ℕ) → answer_of s ≡ Accepted → (decode_of s).policy ≡ policy_of s
+pub turned_away : (s : List ℕ) (r : Refusal) → answer_of s ≡ Err r → decode_of s ≡ Err r
 unfolding decode_of
-decoded s e = rw e
+turned_away s r e = ap (λ (a : Checked). give_unless a (policy_of s)) e
 
 -- what a caller learns from it: the bytes are answered as it says, and where it accepts, its policy is what they say
-pub answered : (s : List ℕ) (d : Decoded) (a : Answer) → d ≡ decode_of s → d.answer ≡ a → answer_of s ≡ a
-answered s d a e f = sym (decoded_answer s) ∙ ap (λ (x : Decoded). x.answer) (sym e) ∙ f
+pub answered : (s : List ℕ) (d : Result Policy Refusal) → d ≡ decode_of s → reply d ≡ answer_of s
+unfolding decode_of
+answered s d e = ap reply e ∙ replied (answer_of s) (policy_of s)
 
-pub handed_out : (s : List ℕ) (d : Decoded) → d ≡ decode_of s → d.answer ≡ Accepted → d.policy ≡ policy_of s
-handed_out s d e f = ap (λ (x : Decoded). x.policy) e ∙ decoded s (answered s d Accepted e f)
+pub handed_out : (s : List ℕ) (d : Result Policy Refusal) (p : Policy) → d ≡ decode_of s → d ≡ Ok p → (answer_of s ≡ Ok tt) × (p ≡ policy_of s)
+unfolding decode_of
+handed_out s d p e f = given (answer_of s) (policy_of s) p (sym e ∙ f)
+
+pub refused : (s : List ℕ) (d : Result Policy Refusal) (r : Refusal) → d ≡ decode_of s → d ≡ Err r → answer_of s ≡ Err r
+unfolding decode_of
+refused s d r e f = withheld (answer_of s) (policy_of s) r (sym e ∙ f)

@@ -1,13 +1,12 @@
 -- The bytes are accepted exactly when they are a card of 01, and what is read is what stands there: each line is read where the one before it
 -- ended, so its place is that of the layout. Assumes nothing.
 use Prim.Native.Nat.{ℕ, zero, suc, ◌+◌, ◌≤◌, ◌<◌}
-use Rattle.std.specs.Prelude.{◌≡◌, Bool, ◌↔◌, List, get_or, length}
+use Rattle.std.specs.Prelude.{◌≡◌, Bool, ◌↔◌, List, get_or, length, Ok}
 use Rattle.std.proofs.Math.Path.{refl, sym, ap, subst}
 use Rattle.std.proofs.Common.{◌∙◌, arith}
 use Rattle.encoding.specs.Fields.{has, size}
 use Rattle.encoding.specs.Layout.{extent}
 use Rattle.encoding.proofs.Laws.{laid_extent}
-use Rattle.refusal.specs.declared.Answer.TheVariants.{Accepted}
 use Rattle.policy.specs.declared.Subformula.{Subformula}
 use Rattle.policy.specs.Encoded.{RulesIn, Line, widths, numbers, LineAt, rules_in, IsPolicy}
 use Rattle.policy.specs.Format.{line_length, fields_at, subformula_of, subformula_at, count_of, offset, no_line, rules_up_to, answer_of, policy_of}
@@ -86,7 +85,7 @@ module _ (s : List ℕ) where
 
   -- ---- what is accepted, and what is read
 
-  pub accepts : (answer_of s ≡ Accepted) ↔ IsPolicy s
+  pub accepts : (answer_of s ≡ Ok tt) ↔ IsPolicy s
   accepts = (
     λ e. let w = (causes s).accepted.0 e in is_policy w.0 w.1,
     λ p. (causes s).accepted.1 (whole p, subst RulesIn (rules_stood p (count_of s) (omega arith)) p.rules),

@@ -1,15 +1,14 @@
 -- Laws of the definitions in specs/ReadPolicy. Assumes nothing.
-use Rattle.std.specs.Prelude.{◌≡◌, List, ℕ}
+use Rattle.refusal.specs.declared.Refusal.{Refusal}
+use Rattle.policy.specs.declared.Policy.{Policy}
+use Rattle.std.specs.Prelude.{◌≡◌, List, ℕ, Ok, Result}
 use Rattle.std.proofs.Common.{sym, subst}
-use Rattle.policy.specs.declared.Decoded.{Decoded}
-use Rattle.refusal.specs.declared.Answer.TheVariants as C
-use Rattle.policy.specs.Format.{policy_of, decode_of}
+use Rattle.policy.specs.Format.{decode_of}
 use Rattle.policy.specs.Proper.{Proper}
-use Rattle.policy.proofs.Laws.{accepted, answered, handed_out}
+use Rattle.policy.proofs.Laws.{accepted, handed_out}
 use Rattle.policy.specs.ReadPolicy.{Read}
 
-pub read_policy : (s : List ℕ) (d : Decoded) → d ≡ decode_of s → d.answer ≡ C.Accepted → Read s d.policy
-read_policy s d e f =
-    let card = answered s d C.Accepted e f in
-    let same : d.policy ≡ policy_of s = handed_out s d e f in
-    record { card = card; same = same; proper = subst Proper (sym same) (accepted s card) }
+pub read_policy : (s : List ℕ) (d : Result Policy Refusal) (p : Policy) → d ≡ decode_of s → d ≡ Ok p → Read s p
+read_policy s d p e f =
+    let h = handed_out s d p e f in
+    record { card = h.0; same = h.1; proper = subst Proper (sym h.1) (accepted s h.0) }

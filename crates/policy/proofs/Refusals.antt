@@ -12,9 +12,8 @@ use Rattle.mtl.specs.declared.Formula.{Formula}
 use Rattle.refusal.specs.declared.Refusal.{Refusal}
 use Rattle.refusal.specs.declared.Refusal.TheVariants.{BadHeading, BadSubformula, RuleCount, ShortBuffer}
 use Rattle.refusal.specs.Numbers.{refusal_number, refusal_place, refusal_of}
-use Rattle.refusal.specs.Checks.{Check, first_failed, Passed, none, pass, Refuses, here, there, RefusedWith}
+use Rattle.refusal.specs.Checks.{Check, first_failed, Passed, none, pass, Refuses, here, there, RefusedWith, reply}
 use Rattle.refusal.proofs.Laws.{number_law, passing_law}
-use Rattle.refusal.specs.Writes.{reply}
 use Rattle.refusal.proofs.Writes.{alike, told, kept_rest, unwritten}
 use Rattle.policy.specs.declared.LineNumbers.{LineNumbers}
 use Rattle.policy.specs.declared.PolicyNumbers.{PolicyNumbers}

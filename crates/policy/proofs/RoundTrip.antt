@@ -3,7 +3,7 @@
 use Prim.Native.Nat.{ℕ, zero, suc, ◌+◌, ◌*◌, ◌^◌, ◌≤◌, ◌<◌}
 use native.Mathlib.Omega.{arith}
 use Rattle.std.proofs.Common.{eq-or-lt_of_le, zero-add, ◌∙◌, ext_get_or, take_at}
-use Rattle.std.specs.Prelude.{◌≡◌, refl, Bool, cond, List, ◌++◌, length, take, drop}
+use Rattle.std.specs.Prelude.{◌≡◌, refl, Bool, cond, List, ◌++◌, length, take, drop, Ok}
 use Rattle.std.proofs.Math.Path.{sym, ap, subst}
 use Rattle.std.proofs.Math.Logic.{⊎_elim}
 use Rattle.std.proofs.Math.ListN.{get_or, length-append, get_or-map}
@@ -12,7 +12,6 @@ use Rattle.encoding.specs.Text.{bytes_of, ByteString, Stands}
 use Rattle.encoding.specs.Texts.{Width, one, two, Holds}
 use Rattle.encoding.proofs.Texts.{stands_first, stands_next, stands_both, value_stands, length_text, takes_most, bytes_both, bytes_number, bytes_text, laid_out, text_stands}
 use Rattle.mtl.specs.declared.Formula.{Formula}
-use Rattle.refusal.specs.declared.Answer.TheVariants.{Accepted}
 use Rattle.policy.specs.declared.LineNumbers.{LineNumbers}
 use Rattle.policy.specs.declared.PolicyNumbers.{PolicyNumbers}
 use Rattle.policy.specs.Encoded.{IsLine, is_true, is_proposition, is_not, is_or, is_since, is_until, is_and, is_implies, is_once, is_historically, is_eventually, is_always, Line, widths, LineAt, rules_in, IsPolicy, RulesIn}
@@ -273,7 +272,7 @@ module _ (p : PolicyNumbers) (r : InRange p) where
         rules = rw its_count (subst RulesIn (same_rules p.count) r.rules);
       }
 
-  accepted : answer_of s ≡ Accepted
+  accepted : answer_of s ≡ Ok tt
   accepted = (accepts s).1 is_policy
 
   -- line i comes back
@@ -302,7 +301,7 @@ module _ (p : PolicyNumbers) (r : InRange p) where
 
 -- ---- what is read is written
 
-module _ (s : List ℕ) (bs : ByteString s) (e : answer_of s ≡ Accepted) where
+module _ (s : List ℕ) (bs : ByteString s) (e : answer_of s ≡ Ok tt) where
   read : IsPolicy s
   read = (accepts s).0 e
 
@@ -376,7 +375,7 @@ round_trip = record {
   writes_back = λ s bs e. (ranged s bs e, own_bytes s bs e);
   texts = λ s bs. (
     λ e. (numbers_of (policy_of s), ranged s bs e, sym (own_bytes s bs e)),
-    λ t. subst (λ (x : List ℕ). answer_of x ≡ Accepted) (sym t.2) (accepted t.0 t.1),
+    λ t. subst (λ (x : List ℕ). answer_of x ≡ Ok tt) (sym t.2) (accepted t.0 t.1),
   );
   one_text = λ s t bs ct e f q. sym (own_bytes s bs e) ∙ ap (λ x. text_of (numbers_of x)) q ∙ own_bytes t ct f;
   bytes = are_bytes;
@@ -388,5 +387,5 @@ round_trip = record {
   readable = λ p out n e. let q = causes p out in
       let d = (q.done n).0 e in
       let cut : take n (encode_of p out).out ≡ text_of p = ap (take n) (q.text n e) ∙ take_at (text_of p) (drop n out) n (sym d.2) in
-      subst (λ (x : List ℕ). answer_of x ≡ Accepted) (sym cut) (accepted p d.0);
+      subst (λ (x : List ℕ). answer_of x ≡ Ok tt) (sym cut) (accepted p d.0);
 }

@@ -1,14 +1,13 @@
 -- "Bit 5 makes the line a rule"; "rule numbers follow line order from 0": rule r is the line with bit 5 that has exactly r such lines before it.
 -- The list of rules grows at its end, so a rule's number is how many stood before it. Assumes nothing.
 use Prim.Native.Nat.{ℕ, zero, suc, ◌+◌, ◌≤◌, ◌<◌}
-use Rattle.std.specs.Prelude.{◌≡◌, Bool, true, false, cond, ◌↔◌, List, [], ◌∷◌, ◌++◌, get_or}
+use Rattle.std.specs.Prelude.{◌≡◌, Bool, true, false, cond, ◌↔◌, List, [], ◌∷◌, ◌++◌, get_or, Ok}
 use Rattle.std.proofs.Math.Path.{refl, ap, subst}
 use Rattle.std.proofs.Common.{sym, ◌∙◌, arith}
 use Rattle.std.proofs.Math.Decide.{dec_lt}
 use Rattle.std.proofs.Math.ListN.{length, get_or-append}
 use Rattle.std.proofs.lemmas.List.{get_or_at}
 use Rattle.encoding.specs.Fields.{has, size}
-use Rattle.refusal.specs.declared.Answer.TheVariants.{Accepted}
 use Rattle.policy.specs.declared.Subformula.{Subformula}
 use Rattle.policy.specs.Format.{line_length, fields_at, keeps_kind, good_line, meaning, formula_of, subformula_of, subformula_at, count_of, offset, heading_checks, line_checks, lines_checks, lines_up_to, no_line, subformulas_of, rule_lines, rules_up_to, closing_checks, policy_checks, answer_of, policy_of}
 use Rattle.policy.specs.Proper.{rules_of}
@@ -81,6 +80,6 @@ module _ (s : List ℕ) where
 abbrev five_lines : List ℕ
 five_lines = 0x01 ∷ 0x01 ∷ 0x04 ∷ 0x00 ∷ 0x05 ∷ 0x00 ∷ 0x21 ∷ 0x01 ∷ 0x21 ∷ 0x02 ∷ 0x05 ∷ 0x03 ∷ 0x01 ∷ 0x20 ∷ []
 
-pub three_rules : (answer_of five_lines ≡ Accepted) × (rules_of (policy_of five_lines) ≡ 1 ∷ 2 ∷ 4 ∷ [])
+pub three_rules : (answer_of five_lines ≡ Ok tt) × (rules_of (policy_of five_lines) ≡ 1 ∷ 2 ∷ 4 ∷ [])
 unfolding line_length fields_at keeps_kind good_line meaning formula_of subformula_of subformula_at heading_checks offset line_checks lines_checks lines_up_to subformulas_of rule_lines rules_up_to closing_checks policy_checks answer_of policy_of
 three_rules = (refl, refl)

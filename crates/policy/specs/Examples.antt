@@ -1,10 +1,8 @@
 -- A policy with a line of every kind and one that has every field. The list of widths is shared by what is read and by what is stated of it, so that
 -- no theorem can tell a wrong one: this example does.
-use Rattle.std.specs.Prelude.{◌≡◌, true, false, List, [], ◌∷◌, ◌++◌, replicate, ℕ}
+use Rattle.std.specs.Prelude.{◌≡◌, true, false, List, [], ◌∷◌, ◌++◌, replicate, ℕ, Err, Ok}
 use Rattle.mtl.specs.declared.Formula.TheVariants as F
 use Rattle.refusal.specs.declared.Refusal.TheVariants.{BadHeading, BadSubformula, RuleCount, ShortBuffer}
-use Rattle.refusal.specs.declared.Answer.TheVariants.{Accepted}
-use Rattle.refusal.specs.declared.Written.TheVariants.{Length, Refused}
 use Rattle.policy.specs.declared.LineNumbers.{LineNumbers}
 use Rattle.policy.specs.declared.PolicyNumbers.{PolicyNumbers}
 use Rattle.policy.specs.Format.{answer_of, policy_of}
@@ -32,7 +30,7 @@ every_kind =
     ∷ []
 
 pub record EveryKind : Type 0 where
-  pub accepted : answer_of every_kind ≡ Accepted
+  pub accepted : answer_of every_kind ≡ Ok tt
   pub propositions : (policy_of every_kind).sizes.propositions ≡ 2
   pub components : (policy_of every_kind).sizes.components ≡ 3
   pub minutes : (policy_of every_kind).sizes.minutes ≡ 258
@@ -85,17 +83,17 @@ with_lines n lines = record { propositions = 2; components = 3; minutes = 258; c
 pub record EveryNumber : Type 0 where
   pub text : text_of every_number ≡ every_kind
   -- into a buffer that fits, one that is longer, and one that is a byte short
-  pub exact : encode_of every_number (replicate 66 7) ≡ record { answer = Length 66; out = every_kind }
-  pub longer : encode_of every_number (replicate 68 7) ≡ record { answer = Length 66; out = every_kind ++ 7 ∷ 7 ∷ [] }
-  pub short : encode_of every_number (replicate 65 7) ≡ record { answer = Refused ShortBuffer; out = replicate 65 7 }
+  pub exact : encode_of every_number (replicate 66 7) ≡ record { answer = Ok 66; out = every_kind }
+  pub longer : encode_of every_number (replicate 68 7) ≡ record { answer = Ok 66; out = every_kind ++ 7 ∷ 7 ∷ [] }
+  pub short : encode_of every_number (replicate 65 7) ≡ record { answer = Err ShortBuffer; out = replicate 65 7 }
   -- "in that order": a bad line and no rule are 3, also in a buffer that is short; no line at all is 2
-  pub line_first : encode_of (with_lines 1 (numbered 1 2 0 0 0 false ∷ [])) [] ≡ record { answer = Refused (BadSubformula 0); out = [] }
+  pub line_first : encode_of (with_lines 1 (numbered 1 2 0 0 0 false ∷ [])) [] ≡ record { answer = Err (BadSubformula 0); out = [] }
   -- a "once" has no second operand, and there is no kind 12
   pub once_second : encode_of (with_lines 3 (numbered 0 0 0 0 0 false ∷ numbered 0 0 0 0 0 false ∷ numbered 8 0 1 0 0 true ∷ [])) []
-      ≡ record { answer = Refused (BadSubformula 0); out = [] }
-  pub no_twelve : encode_of (with_lines 1 (numbered 12 0 0 0 0 true ∷ [])) [] ≡ record { answer = Refused (BadSubformula 0); out = [] }
-  pub no_rule : encode_of (with_lines 1 (numbered 1 1 0 0 0 false ∷ [])) [] ≡ record { answer = Refused RuleCount; out = [] }
-  pub no_line : encode_of (with_lines 0 []) [] ≡ record { answer = Refused (BadHeading 0); out = [] }
+      ≡ record { answer = Err (BadSubformula 0); out = [] }
+  pub no_twelve : encode_of (with_lines 1 (numbered 12 0 0 0 0 true ∷ [])) [] ≡ record { answer = Err (BadSubformula 0); out = [] }
+  pub no_rule : encode_of (with_lines 1 (numbered 1 1 0 0 0 false ∷ [])) [] ≡ record { answer = Err RuleCount; out = [] }
+  pub no_line : encode_of (with_lines 0 []) [] ≡ record { answer = Err (BadHeading 0); out = [] }
   -- 01's K, from its fields
   pub k : text_of (record {
     propositions = 1;

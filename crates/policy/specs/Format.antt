@@ -1,11 +1,12 @@
 -- 01, "The card", as a function from the bytes to the answer and the policy. Each definition opens with its sentence.
-use Rattle.std.specs.Prelude.{ℕ, zero, suc, ◌+◌, ◌-◌, Bool, true, false, not, cond, ◌&&◌, ◌||◌, List, [], ◌∷◌, ◌++◌, eqb, ltb, leb, get_or, length, replicate}
+use Rattle.refusal.specs.declared.Refusal.{Refusal}
+use Rattle.std.specs.Prelude.{ℕ, zero, suc, ◌+◌, ◌-◌, Bool, true, false, not, cond, ◌&&◌, ◌||◌, List, [], ◌∷◌, ◌++◌, eqb, ltb, leb, get_or, length, replicate, Result}
 use Rattle.encoding.specs.Fields.{has, size, written}
 use Rattle.encoding.specs.Layout.{extent, value_at, field}
 use Rattle.mtl.specs.declared.Formula.{Formula}
 use Rattle.mtl.specs.declared.Formula.TheVariants as F
 use Rattle.refusal.specs.declared.Refusal.TheVariants.{TruncatedPolicy, BadHeading, BadSubformula, RuleCount}
-use Rattle.refusal.specs.Checks.{Check, check, first_failed}
+use Rattle.refusal.specs.Checks.{Checked, Check, check, first_failed, give_unless}
 use Rattle.policy.specs.declared.Sizes.{Sizes}
 use Rattle.policy.specs.declared.Subformula.{Subformula}
 use Rattle.policy.specs.declared.Policy.{Policy}
@@ -13,9 +14,6 @@ use Rattle.policy.specs.declared.Fields.{Fields}
 use Rattle.policy.specs.declared.Operands.{Operands}
 use Rattle.policy.specs.declared.Operands.TheVariants.{Nothing, Proposition, Line, TwoLines}
 use Rattle.policy.specs.declared.Kind.{Kind}
-use Rattle.policy.specs.declared.Decoded.{Decoded}
-use Rattle.refusal.specs.declared.Answer.{Answer}
-use Rattle.refusal.specs.declared.Answer.TheVariants.{Accepted, Refused}
 use Rattle.policy.specs.Encoded.{widths}
 
 -- ---- one line
@@ -200,19 +198,12 @@ policy_checks s =
     ++ (lines_checks s (count_of s)
     ++ closing_checks (length s) (offset s (count_of s)) (rules_up_to s (count_of s))))
 
-unfoldable pub answer_of : List ℕ → Answer
+unfoldable pub answer_of : List ℕ → Checked
 answer_of s = first_failed (policy_checks s)
 
 unfoldable pub policy_of : List ℕ → Policy
 policy_of s = record { sizes = sizes_of s; count = count_of s; rules = rules_up_to s (count_of s); subformulas = subformulas_of s (count_of s) }
 
--- what stands beside a refusal
-unfoldable pub blank : Policy
-blank = record { sizes = record { propositions = 0; components = 0; minutes = 0 }; count = 0; rules = 0; subformulas = replicate 64 no_line }
-
-abbrev pub with_answer : Answer → Policy → Decoded
-with_answer Accepted p = record { answer = Accepted; policy = p }
-with_answer (Refused r) p = record { answer = Refused r; policy = blank }
-
-unfoldable pub decode_of : List ℕ → Decoded
-decode_of s = with_answer (answer_of s) (policy_of s)
+-- what the reader gives: the policy, unless it is refused
+unfoldable pub decode_of : List ℕ → Result Policy Refusal
+decode_of s = give_unless (answer_of s) (policy_of s)

@@ -3,6 +3,7 @@ pub mod Encoded
 pub mod Examples
 pub mod Format
 pub mod Kinds
+pub mod LineKinds
 pub mod Lines
 pub mod Proper
 pub mod ReadPolicy

@@ -1,12 +1,11 @@
 -- What is true of every policy that is read, and the exact cause of each refusal of 1 to 4.
-use Rattle.std.specs.Prelude.{ℕ, suc, ◌≤◌, ◌<◌, ◌≡◌, ◌↔◌, List, get_or, length}
+use Rattle.std.specs.Prelude.{ℕ, suc, ◌≤◌, ◌<◌, ◌≡◌, ◌↔◌, List, get_or, length, Err, Ok}
 use Rattle.encoding.specs.Layout.{value_at}
 use Rattle.mtl.specs.declared.Formula.{Formula}
 use Rattle.mtl.specs.Syntax.{Earlier, Proposes, Bounded}
 use Rattle.refusal.specs.declared.Refusal.{Refusal}
 use Rattle.refusal.specs.declared.Refusal.TheVariants.{TruncatedPolicy, BadHeading, BadSubformula, RuleCount}
 use Rattle.policy.specs.declared.Policy.{Policy}
-use Rattle.refusal.specs.declared.Answer.TheVariants.{Accepted, Refused}
 use Rattle.policy.specs.Encoded.{IsHeading, PropositionsIn, ComponentsIn, MinutesIn, LinesIn, RulesIn, Line, LineAt}
 pub use Rattle.policy.specs.Encoded.{Between}
 use Rattle.policy.specs.Format.{no_line, rule_lines, count_of, offset, rules_up_to, answer_of}
@@ -81,8 +80,8 @@ Misformed s at = Cause s (BadSubformula at)
 
 -- each number is answered exactly for its own cause
 pub record Causes (s : List ℕ) : Type 0 where
-  pub one : (at : ℕ) → (answer_of s ≡ Refused (TruncatedPolicy at)) ↔ Cut s at
-  pub two : (at : ℕ) → (answer_of s ≡ Refused (BadHeading at)) ↔ Misheaded s at
-  pub three : (at : ℕ) → (answer_of s ≡ Refused (BadSubformula at)) ↔ Misformed s at
-  pub four : (answer_of s ≡ Refused RuleCount) ↔ (Whole s × (RulesIn (rules_up_to s (count_of s)) → ⊥))
-  pub accepted : (answer_of s ≡ Accepted) ↔ (Whole s × RulesIn (rules_up_to s (count_of s)))
+  pub one : (at : ℕ) → (answer_of s ≡ Err (TruncatedPolicy at)) ↔ Cut s at
+  pub two : (at : ℕ) → (answer_of s ≡ Err (BadHeading at)) ↔ Misheaded s at
+  pub three : (at : ℕ) → (answer_of s ≡ Err (BadSubformula at)) ↔ Misformed s at
+  pub four : (answer_of s ≡ Err RuleCount) ↔ (Whole s × (RulesIn (rules_up_to s (count_of s)) → ⊥))
+  pub accepted : (answer_of s ≡ Ok tt) ↔ (Whole s × RulesIn (rules_up_to s (count_of s)))

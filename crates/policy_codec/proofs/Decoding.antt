@@ -1,49 +1,65 @@
--- The answer and the policy as the code puts them together. Assumes nothing.
-use Prim.Native.Nat.{ℕ, ◌≤◌}
-use mathlib.Core.Path.{◌≡◌, sym, ◌∙◌}
+-- What the reader gives, as the code puts it together: the first check that fails refuses the bytes; where all pass, the policy is `policy_of`.
+-- Assumes nothing.
+use Rattle.std.specs.Prelude.{Err, Ok, Result}
+use Rattle.policy.specs.declared.Policy.{Policy}
+use Prim.Native.Nat.{ℕ, ◌≤◌, ◌<◌}
+use mathlib.Core.Path.{◌≡◌, sym, ap, ◌∙◌}
 use mathlib.Core.List.{List}
 use lib.ListN.{length}
 use Rattle.refusal.specs.declared.Refusal.{Refusal}
-use Rattle.refusal.specs.declared.Answer.{Answer}
-use Rattle.refusal.specs.declared.Answer.TheVariants.{Accepted, Refused}
-use Rattle.refusal.specs.Checks.{first_failed, Passed, Refuses}
-use Rattle.refusal.proofs.Laws.{refusal_law, passing_law}
+use Rattle.refusal.specs.declared.Refusal.TheVariants.{TruncatedPolicy}
+use Rattle.refusal.specs.Checks.{Checked, first_failed, Passed, Refuses}
+use Rattle.refusal.proofs.Laws.{refusal_law, passing_law, given, withheld}
 use Rattle.policy.specs.declared.Sizes.{Sizes}
-use Rattle.policy.specs.declared.Subformula.{Subformula}
-use Rattle.policy.specs.declared.Decoded.{Decoded}
 use Rattle.policy.specs.declared.Scanned.{Scanned}
-use Rattle.policy.specs.Format.{sizes_of, count_of, rules_up_to, offset, subformulas_of, with_answer, blank, heading_checks, lines_checks, closing_checks, policy_checks, answer_of, policy_of, decode_of}
-use Rattle.policy.specs.Lines.{Scans}
-use Rattle.policy.proofs.Causes.{in_lines, in_closing, to_the_end}
+use Rattle.policy.specs.Format.{sizes_of, count_of, rules_up_to, offset, heading_checks, lines_checks, closing_checks, policy_checks, answer_of, policy_of, decode_of}
+use Rattle.policy.specs.Lines.{scanned, scan_of}
+use Rattle.policy.proofs.Causes.{no_heading, in_heading, in_lines, in_closing, to_the_end, headed}
+use Rattle.policy.proofs.Laws.{decoded, turned_away}
 
-pub refuses : (s : List ℕ) (r : Refusal) (d : Decoded) → Refuses (policy_checks s) r → d ≡ with_answer (Refused r) blank → d ≡ decode_of s
-unfolding decode_of answer_of
-refuses s r d q f = f ∙ rw ((refusal_law (policy_checks s) r).1 q)
+refuses : (s : List ℕ) (r : Refusal) → Refuses (policy_checks s) r → ◌≡◌ {A = Result Policy Refusal} (Err r) (decode_of s)
+unfolding answer_of
+refuses s r q = sym (turned_away s r ((refusal_law (policy_checks s) r).1 q))
 
-pub accepts : (s : List ℕ) (z : Sizes) (rules : ℕ) (t : List Subformula) → Passed (policy_checks s) → z ≡ sizes_of s → rules ≡ rules_up_to s (count_of s)
-    → t ≡ subformulas_of s (count_of s)
-    → record { answer = Accepted; policy = record { sizes = z; count = count_of s; rules = rules; subformulas = t } } ≡ decode_of s
-unfolding decode_of answer_of policy_of
-accepts s z rules t p f g h = rw ((passing_law (policy_checks s)).1 p, f, g, h)
+pub heading_cut : (s : List ℕ) → length s < 5 → ◌≡◌ {A = Result Policy Refusal} (Err (TruncatedPolicy (length s))) (decode_of s)
+heading_cut s h = refuses s _ (no_heading s h)
 
--- what the lines answer, and after lines that are accepted the closing checks
-module _ (s : List ℕ) (lines : Scanned) (h : (5 ≤ length s) × (first_failed (heading_checks s) ≡ Accepted)) (l : Scans s (count_of s) lines) where
-  heading : Passed (heading_checks s)
-  heading = (passing_law (heading_checks s)).0 h.1
+module _ (s : List ℕ) (h : 5 ≤ length s) where
+  pub heading_refused : (r : Refusal) → Err r ≡ first_failed (heading_checks s) → ◌≡◌ {A = Result Policy Refusal} (Err r) (decode_of s)
+  heading_refused r e = refuses s r (in_heading s h r ((refusal_law (heading_checks s) r).0 (sym e)))
 
-  pub line_refused : (r : Refusal) → lines.answer ≡ Refused r → Refuses (policy_checks s) r
-  line_refused r e = in_lines s h.0 heading r ((refusal_law (lines_checks s (count_of s)) r).0 (sym l.answer ∙ e))
+  module _ (e : Ok tt ≡ first_failed (heading_checks s)) where
+    heading : Passed (heading_checks s)
+    heading = (passing_law (heading_checks s)).0 (sym e)
 
-  module _ (e : lines.answer ≡ Accepted) where
-    read : Passed (lines_checks s (count_of s))
-    read = (passing_law (lines_checks s (count_of s))).0 (sym l.answer ∙ e)
+    -- there are at most 64 lines
+    pub few_lines : count_of s ≤ 64
+    few_lines = (headed s h heading).heading.lines_in.high
 
-    same : {a : Answer} → a ≡ first_failed (closing_checks (length s) lines.at lines.rules)
-        → first_failed (closing_checks (length s) (offset s (count_of s)) (rules_up_to s (count_of s))) ≡ a
-    same f = rw (← (l.at e), ← (l.rules e)) (sym f)
+    -- what the lines answer, and after lines that are accepted the closing checks
+    pub lines_refused : (r : Refusal) → Err r ≡ scan_of s (count_of s) → ◌≡◌ {A = Result Policy Refusal} (Err r) (decode_of s)
+    unfolding scan_of
+    lines_refused r f =
+        refuses s r (in_lines s h heading r ((refusal_law (lines_checks s (count_of s)) r).0 (withheld (first_failed (lines_checks s (count_of s))) (scanned s (count_of s)) r (sym f))))
 
-    pub closing_refused : (r : Refusal) → Refused r ≡ first_failed (closing_checks (length s) lines.at lines.rules) → Refuses (policy_checks s) r
-    closing_refused r f = in_closing s h.0 heading r read ((refusal_law (closing_checks (length s) (offset s (count_of s)) (rules_up_to s (count_of s))) r).0 (same f))
+    module _ (l : Scanned) (f : Ok l ≡ scan_of s (count_of s)) where
+      both : (first_failed (lines_checks s (count_of s)) ≡ Ok tt) × (l ≡ scanned s (count_of s))
+      unfolding scan_of
+      both = given (first_failed (lines_checks s (count_of s))) (scanned s (count_of s)) l (sym f)
 
-    pub all_passed : Accepted ≡ first_failed (closing_checks (length s) lines.at lines.rules) → Passed (policy_checks s)
-    all_passed f = to_the_end s h.0 heading read ((passing_law (closing_checks (length s) (offset s (count_of s)) (rules_up_to s (count_of s)))).0 (same f))
+      read : Passed (lines_checks s (count_of s))
+      read = (passing_law (lines_checks s (count_of s))).0 both.0
+
+      same : {a : Checked} → a ≡ first_failed (closing_checks (length s) l.at l.rules)
+          → first_failed (closing_checks (length s) (offset s (count_of s)) (rules_up_to s (count_of s))) ≡ a
+      same g = sym (g ∙ ap (λ (x : Scanned). first_failed (closing_checks (length s) x.at x.rules)) both.1)
+
+      pub closing_refused : (r : Refusal) → Err r ≡ first_failed (closing_checks (length s) l.at l.rules) → ◌≡◌ {A = Result Policy Refusal} (Err r) (decode_of s)
+      closing_refused r g = refuses s r (in_closing s h heading r read ((refusal_law (closing_checks (length s) (offset s (count_of s)) (rules_up_to s (count_of s))) r).0 (same g)))
+
+      pub accepts : Ok tt ≡ first_failed (closing_checks (length s) l.at l.rules) → (z : Sizes) → z ≡ sizes_of s
+          → ◌≡◌ {A = Result Policy Refusal} (Ok (record { sizes = z; count = count_of s; rules = l.rules; subformulas = l.subformulas })) (decode_of s)
+      unfolding answer_of policy_of
+      accepts g z e =
+          let all = to_the_end s h heading read ((passing_law (closing_checks (length s) (offset s (count_of s)) (rules_up_to s (count_of s)))).0 (same g)) in
+          rw (e, both.1) (sym (decoded s ((passing_law (policy_checks s)).1 all)))

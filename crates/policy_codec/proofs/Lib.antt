@@ -1,4 +1,5 @@
+pub mod Chains
 pub mod Decoding
-pub mod Line
+pub mod Encoding
 pub mod Lines
 pub mod Writing

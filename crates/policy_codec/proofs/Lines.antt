@@ -1,6 +1,7 @@
 -- The table of subformulas as the loop fills it, one line after another. Assumes nothing.
+use Rattle.std.specs.Prelude.{Err, Ok, Result}
 use Prim.Native.Nat.{ℕ, suc, ◌+◌, ◌≤◌, ◌<◌}
-use mathlib.Core.Path.{◌≡◌, refl, sym}
+use mathlib.Core.Path.{◌≡◌, refl}
 use mathlib.Core.Bool.{Bool, true, false}
 use mathlib.Core.List.{List}
 use native.Mathlib.Omega.{arith}
@@ -12,11 +13,11 @@ use Rattle.refusal.specs.declared.Refusal.{Refusal}
 use Rattle.refusal.specs.declared.Refusal.TheVariants.{TruncatedPolicy, BadSubformula}
 use Rattle.policy.specs.declared.Subformula.{Subformula}
 use Rattle.policy.specs.declared.Fields.{Fields}
-use Rattle.refusal.specs.declared.Answer.TheVariants.{Accepted, Refused}
 use Rattle.refusal.specs.Checks.{Passed, none, pass, Refuses, here, there}
 use Rattle.refusal.proofs.Laws.{refusal_law, passing_law}
 use Rattle.policy.specs.Format.{line_length, fields_at, good_line, subformula_of, subformula_at, offset, line_checks, lines_checks, no_line, subformulas_of, rules_up_to}
-use Rattle.policy.specs.Lines.{Scans}
+use Rattle.policy.specs.declared.Scanned.{Scanned}
+use Rattle.policy.specs.Lines.{scan_of}
 use Rattle.policy.proofs.Table.{none_yet, one_more}
 use Rattle.policy.proofs.Causes.{refused_line, passed_line}
 
@@ -69,16 +70,12 @@ module _ (s : List ℕ) (i : ℕ) (t : List Subformula) (rules at : ℕ) (u : Up
           table = rw (u.table, v, same, u.place) (one_more s i h);
         }
 
-pub refused_lines : (s : List ℕ) (n : ℕ) (t : List Subformula) (rules at : ℕ) (r : Refusal) → Refuses (lines_checks s n) r
-    → Scans s n (record { answer = Refused r; at = at; rules = rules; subformulas = t })
-refused_lines s n t rules at r q =
-    record {
-      answer = sym ((refusal_law (lines_checks s n) r).1 q);
-      at = λ f. absurd (let z : ◌≡◌ {A = ℕ} 0 1 = cc in omega arith);
-      rules = λ f. absurd (let z : ◌≡◌ {A = ℕ} 0 1 = cc in omega arith);
-      subformulas = λ f. absurd (let z : ◌≡◌ {A = ℕ} 0 1 = cc in omega arith);
-    }
+module _ (s : List ℕ) (n : ℕ) where
+  pub refused_lines : (r : Refusal) → Refuses (lines_checks s n) r → ◌≡◌ {A = Result Scanned Refusal} (Err r) (scan_of s n)
+  unfolding scan_of
+  refused_lines r q = rw ((refusal_law (lines_checks s n) r).1 q)
 
-pub read_lines : (s : List ℕ) (n : ℕ) (t : List Subformula) (rules at : ℕ) → UpTo s n t rules at
-    → Scans s n (record { answer = Accepted; at = at; rules = rules; subformulas = t })
-read_lines s n t rules at u = record { answer = sym ((passing_law (lines_checks s n)).1 u.accepted); at = λ f. u.place; rules = λ f. u.counted; subformulas = λ f. u.table }
+  pub read_lines : (t : List Subformula) (rules at : ℕ) → UpTo s n t rules at
+      → ◌≡◌ {A = Result Scanned Refusal} (Ok (record { at = at; rules = rules; subformulas = t })) (scan_of s n)
+  unfolding scan_of
+  read_lines t rules at u = rw ((passing_law (lines_checks s n)).1 u.accepted, u.place, u.counted, u.table)

@@ -6,8 +6,9 @@ ghost use Rattle.std.proofs.lemmas.List.Edits.{sets};
 ghost use Rattle.encoding.specs.Fields.{size, written};
 ghost use Rattle.refusal.specs.Checks.{first_failed};
 ghost use Rattle.refusal.specs.Writes.{Output};
-ghost use Rattle.policy.specs.Format.{line_length, fields_at, allowed, operands_good, keeps_kind, good_line, formula_of, subformula_of, within, heading_checks, sizes_of, blank, with_answer, closing_checks, decode_of};
-ghost use Rattle.policy.specs.Lines.{Scans};
+ghost use Rattle.policy.specs.Format.{line_length, fields_at, allowed, operands_good, keeps_kind, good_line, kind_of, formula_of, subformula_of, within, heading_checks, sizes_of, closing_checks, decode_of};
+ghost use Rattle.policy.specs.LineKinds.{kind_number};
+ghost use Rattle.policy.specs.Lines.{scan_of};
 ghost use Rattle.policy.specs.Kinds.{zeros};
 ghost use Rattle.policy.specs.Text.{rules_among, heading_good, line_good, lines_good, line_map, line_text, lines_text, heading_text, encode_of};
 
@@ -17,20 +18,18 @@ use encoding::{
 };
 use mtl::Formula;
 use policy::{
-    Decoded, Fields, Kind, LineNumbers, MOST_LINES, Operands, Policy, PolicyNumbers, Scanned,
-    Sizes, Subformula,
+    Fields, Kind, LineKind, LineNumbers, MOST_LINES, MOST_MINUTES, Operands, Policy, PolicyNumbers,
+    Scanned, Sizes, Subformula,
 };
-use refusal::{Answer, Refusal, Written};
+use refusal::Refusal;
 
 // How many bytes the heading takes.
 const HEADING: usize = 5;
 
-// The most propositions, components, minutes and rules of a policy, and the latest end of an interval.
+// The most propositions, components and rules of a policy, and the latest end of an interval.
 const MOST_PROPOSITIONS: usize = 32;
 
 const MOST_COMPONENTS: usize = 16;
-
-const MOST_MINUTES: usize = 1024;
 
 const MOST_RULES: usize = 8;
 
@@ -50,29 +49,6 @@ const HAS_UPPER: u8 = 16;
 const IS_RULE: u8 = 32;
 
 const SPARE: u8 = 64;
-
-// The kinds of a line, but for the last, always.
-const TRUE: u8 = 0;
-
-const PROPOSITION: u8 = 1;
-
-const NOT: u8 = 2;
-
-const OR: u8 = 3;
-
-const SINCE: u8 = 4;
-
-const UNTIL: u8 = 5;
-
-const AND: u8 = 6;
-
-const IMPLIES: u8 = 7;
-
-const ONCE: u8 = 8;
-
-const HISTORICALLY: u8 = 9;
-
-const EVENTUALLY: u8 = 10;
 
 // The row of true: no field besides kind.
 const CONSTANT: Kind = Kind {
@@ -129,20 +105,18 @@ const WINDOW: Kind = Kind {
 };
 
 // The table of kinds, a row a kind; those from `and` on by 02, request 6.
-const KINDS: [Kind; 12] = [
-    CONSTANT, // true
-    ATOM, // proposition
-    UNARY, // not
-    BINARY, // or
-    TEMPORAL, // since
-    TEMPORAL, // until
-    BINARY, // and
-    BINARY, // implies
-    WINDOW, // once
-    WINDOW, // historically
-    WINDOW, // eventually
-    WINDOW, // always
-];
+fn row_of(kind: LineKind) -> Kind
+    ensures { result ≡ kind_of (kind_number kind) }
+{
+    match kind {
+        LineKind::True => CONSTANT,
+        LineKind::Proposition => ATOM,
+        LineKind::Not => UNARY,
+        LineKind::Or | LineKind::And | LineKind::Implies => BINARY,
+        LineKind::Since | LineKind::Until => TEMPORAL,
+        LineKind::Once | LineKind::Historically | LineKind::Eventually | LineKind::Always => WINDOW,
+    }
+}
 
 // How many bytes of a line the field of this weight takes.
 fn field_size(map: u8, weight: u8, n: usize) -> usize
@@ -153,6 +127,7 @@ fn field_size(map: u8, weight: u8, n: usize) -> usize
 }
 
 // The length of a line, its map included.
+#[tactic(auto, unfolding(policy::specs::Format::line_length))]
 fn line_length(map: u8) -> usize
     ensures { (result ≡ line_length map) × (result ≤ 8) }
 {
@@ -165,18 +140,17 @@ fn line_length(map: u8) -> usize
 }
 
 // Are all bytes of the line at a place there.
+#[tactic(auto, unfolding(policy::specs::Format::line_length))]
 fn is_whole(s: &[u8], at: usize) -> bool
     requires { at ≤ length s.now }
     ensures { result ≡ leb (at + line_length (get_or s.now at 0)) (length s.now) }
 {
-    let length = s.len();
-    if length <= at {
-        return false;
-    }
-    line_length(s[at]) <= length - at
+    s.get(at)
+        .is_some_and(|map| line_length(*map) <= s.len() - at)
 }
 
 // The fields of the line at a place.
+#[tactic(auto, unfolding(policy::specs::Format::fields_at, policy::specs::Format::line_length))]
 fn fields_at(s: &[u8], at: usize) -> Fields
     requires { at + line_length (get_or s.now at 0) ≤ length s.now }
     ensures { result ≡ fields_at s.now at }
@@ -187,7 +161,7 @@ fn fields_at(s: &[u8], at: usize) -> Fields
     let lower = second + field_size(map, HAS_SECOND, 1);
     let upper = lower + field_size(map, HAS_LOWER, 2);
     Fields {
-        map: map,
+        map,
         kind: read8(s, has(map, HAS_KIND), at + 1),
         first: read8(s, has(map, HAS_FIRST), first),
         second: read8(s, has(map, HAS_SECOND), second),
@@ -234,18 +208,17 @@ fn operands_good(
 }
 
 // Is there such a kind, and do the fields keep its row.
+#[tactic(auto, unfolding(policy::specs::Format::keeps_kind))]
 fn keeps_kind(propositions: u8, line: usize, fields: Fields) -> bool
     ensures { result ≡ keeps_kind propositions line fields }
 {
-    let kind = fields.kind as usize;
-    if kind >= KINDS.len() {
+    let Ok(kind) = LineKind::try_from(fields.kind as u16) else {
         return false;
-    }
-    let row = KINDS[kind];
-    let operands = row.operands;
+    };
+    let row = row_of(kind);
     let named = is_allowed(row, fields.map);
     let referred = operands_good(
-        operands,
+        row.operands,
         propositions as usize,
         line,
         fields.first as usize,
@@ -255,6 +228,7 @@ fn keeps_kind(propositions: u8, line: usize, fields: Fields) -> bool
 }
 
 // Does the line keep every rule.
+#[tactic(auto, unfolding(policy::specs::Format::good_line))]
 fn good_line(propositions: u8, line: usize, fields: Fields) -> bool
     ensures { result ≡ good_line propositions line fields }
 {
@@ -270,125 +244,102 @@ fn good_line(propositions: u8, line: usize, fields: Fields) -> bool
     (map < SPARE) & (kind & (first & (second & (lower & (upper & (row & (ordered & bounded)))))))
 }
 
-// The meaning of a line with one earlier line and an interval.
-fn window_of(fields: Fields) -> Formula
-    requires { 7 < fields.kind }
-    ensures { result ≡ formula_of fields }
-{
-    let kind = fields.kind;
-    if kind == ONCE {
-        return Formula::Once {
-            operand: fields.first,
-            lower: fields.lower,
-            upper: fields.upper,
-        };
-    }
-    if kind == HISTORICALLY {
-        return Formula::Historically {
-            operand: fields.first,
-            lower: fields.lower,
-            upper: fields.upper,
-        };
-    }
-    if kind == EVENTUALLY {
-        return Formula::Eventually {
-            operand: fields.first,
-            lower: fields.lower,
-            upper: fields.upper,
-        };
-    }
-    Formula::Always {
-        operand: fields.first,
-        lower: fields.lower,
-        upper: fields.upper,
-    }
-}
-
 // The meaning of a line.
+#[tactic(auto, unfolding(policy::specs::Format::formula_of, policy::specs::Format::meaning))]
 fn formula_of(fields: Fields) -> Formula
     ensures { result ≡ formula_of fields }
 {
-    let kind = fields.kind;
-    if kind == TRUE {
-        return Formula::True;
+    let Fields {
+        first,
+        second,
+        lower,
+        upper,
+        ..
+    } = fields;
+    match LineKind::try_from(fields.kind as u16) {
+        Ok(LineKind::True) => Formula::True,
+        Ok(LineKind::Proposition) => Formula::Proposition(first),
+        Ok(LineKind::Not) => Formula::Not(first),
+        Ok(LineKind::Or) => Formula::Or(first, second),
+        Ok(LineKind::Since) => Formula::Since {
+            left: first,
+            right: second,
+            lower,
+            upper,
+        },
+        Ok(LineKind::Until) => Formula::Until {
+            left: first,
+            right: second,
+            lower,
+            upper,
+        },
+        Ok(LineKind::And) => Formula::And(first, second),
+        Ok(LineKind::Implies) => Formula::Implies(first, second),
+        Ok(LineKind::Once) => Formula::Once {
+            operand: first,
+            lower,
+            upper,
+        },
+        Ok(LineKind::Historically) => Formula::Historically {
+            operand: first,
+            lower,
+            upper,
+        },
+        Ok(LineKind::Eventually) => Formula::Eventually {
+            operand: first,
+            lower,
+            upper,
+        },
+        Ok(LineKind::Always) | Err(_) => Formula::Always {
+            operand: first,
+            lower,
+            upper,
+        },
     }
-    if kind == PROPOSITION {
-        return Formula::Proposition(fields.first);
-    }
-    if kind == NOT {
-        return Formula::Not(fields.first);
-    }
-    if kind == OR {
-        return Formula::Or(fields.first, fields.second);
-    }
-    if kind == SINCE {
-        return Formula::Since {
-            left: fields.first,
-            right: fields.second,
-            lower: fields.lower,
-            upper: fields.upper,
-        };
-    }
-    if kind == UNTIL {
-        return Formula::Until {
-            left: fields.first,
-            right: fields.second,
-            lower: fields.lower,
-            upper: fields.upper,
-        };
-    }
-    if kind == AND {
-        return Formula::And(fields.first, fields.second);
-    }
-    if kind == IMPLIES {
-        return Formula::Implies(fields.first, fields.second);
-    }
-    window_of(fields)
 }
 
 // The line's meaning, and whether it is a rule.
+#[tactic(auto, unfolding(policy::specs::Format::subformula_of))]
 fn subformula_of(fields: Fields) -> Subformula
     ensures { result ≡ subformula_of fields }
 {
     let formula = formula_of(fields);
     let rule = has(fields.map, IS_RULE);
-    Subformula {
-        formula: formula,
-        rule: rule,
-    }
+    Subformula { formula, rule }
 }
 
 // Is a heading number from least to most.
 fn in_range(least: usize, most: usize, n: usize) -> bool
     ensures { result ≡ within least most n }
 {
-    (least <= n) & (n <= most)
+    (least..=most).contains(&n)
 }
 
-// The first heading number that is out of range.
-fn heading_answer(s: &[u8]) -> Answer
+// The first heading number that is out of range. That the heading is there stands in clauses, here and below: the definitions read all bytes.
+#[tactic(auto, unfolding(policy::specs::Format::heading_checks))]
+fn heading_answer(s: &[u8]) -> Result<(), Refusal>
     requires { 5 ≤ length s.now }
     ensures { result ≡ first_failed (heading_checks s.now) }
 {
     if !in_range(1, MOST_PROPOSITIONS, s[0] as usize) {
-        return Answer::Refused(Refusal::BadHeading(0));
+        return Err(Refusal::BadHeading(0));
     }
     if !in_range(1, MOST_COMPONENTS, s[1] as usize) {
-        return Answer::Refused(Refusal::BadHeading(1));
+        return Err(Refusal::BadHeading(1));
     }
     if !in_range(1, MOST_MINUTES, word(s[2], s[3]) as usize) {
-        return Answer::Refused(Refusal::BadHeading(2));
+        return Err(Refusal::BadHeading(2));
     }
     if !in_range(1, MOST_LINES, s[4] as usize) {
-        return Answer::Refused(Refusal::BadHeading(4));
+        return Err(Refusal::BadHeading(4));
     }
-    Answer::Accepted
+    Ok(())
 }
 
 // Reads the first count lines, one after another.
-fn scan(s: &[u8], count: usize) -> Scanned
+fn scan(s: &[u8], count: usize) -> Result<Scanned, Refusal>
     requires { (5 ≤ length s.now) × (count ≤ 64) }
-    ensures { Scans s.now count result }
+    ensures { result ≡ scan_of s.now count }
 {
     let propositions = s[0];
     let none = Subformula {
@@ -398,76 +349,37 @@ fn scan(s: &[u8], count: usize) -> Scanned
     let mut subformulas = [none; MOST_LINES];
     let mut rules = 0;
     let mut at = HEADING;
-    let mut i = 0;
-    while i < count {
+    for i in 0..count {
         if !is_whole(s, at) {
-            return Scanned {
-                answer: Answer::Refused(Refusal::TruncatedPolicy(s.len())),
-                at: at,
-                rules: rules,
-                subformulas: subformulas,
-            };
+            return Err(Refusal::TruncatedPolicy(s.len()));
         }
         let fields = fields_at(s, at);
         if !good_line(propositions, i, fields) {
-            return Scanned {
-                answer: Answer::Refused(Refusal::BadSubformula(at)),
-                at: at,
-                rules: rules,
-                subformulas: subformulas,
-            };
+            return Err(Refusal::BadSubformula(at));
         }
-        let subformula = subformula_of(fields);
-        subformulas[i] = subformula;
-        let map = fields.map;
-        rules += field_size(map, IS_RULE, 1);
-        at += line_length(map);
-        i += 1;
+        subformulas[i] = subformula_of(fields);
+        rules += field_size(fields.map, IS_RULE, 1);
+        at += line_length(fields.map);
     }
-    Scanned {
-        answer: Answer::Accepted,
-        at: at,
-        rules: rules,
-        subformulas: subformulas,
-    }
-}
-
-// What stands beside a refusal.
-fn refused(r: Refusal) -> Decoded
-    ensures { result ≡ with_answer (Answer.Refused r) blank }
-{
-    let none = Subformula {
-        formula: Formula::True,
-        rule: false,
-    };
-    let sizes = Sizes {
-        propositions: 0,
-        components: 0,
-        minutes: 0,
-    };
-    let policy = Policy {
-        sizes: sizes,
-        count: 0,
-        rules: 0,
-        subformulas: [none; MOST_LINES],
-    };
-    Decoded {
-        answer: Answer::Refused(r),
-        policy: policy,
-    }
+    Ok(Scanned {
+        at,
+        rules,
+        subformulas,
+    })
 }
 
 // Nothing follows the lines, and one to eight of them are rules.
-fn closing_answer(length: usize, at: usize, rules: usize) -> Answer
+#[tactic(auto, unfolding(policy::specs::Format::closing_checks))]
+fn closing_answer(length: usize, at: usize, rules: usize) -> Result<(), Refusal>
     ensures { result ≡ first_failed (closing_checks length at rules) }
 {
     if at != length {
-        return Answer::Refused(Refusal::TruncatedPolicy(at));
+        return Err(Refusal::TruncatedPolicy(at));
     }
     if !in_range(1, MOST_RULES, rules) {
-        return Answer::Refused(Refusal::RuleCount);
+        return Err(Refusal::RuleCount);
     }
-    Answer::Accepted
+    Ok(())
 }
 
 // The heading's numbers but the last.
@@ -482,55 +394,31 @@ fn sizes_of(s: &[u8]) -> Sizes
     }
 }
 
-// Reads a policy whose heading is good.
-fn decode_lines(s: &[u8]) -> Decoded
-    requires { (5 ≤ length s.now) × (first_failed (heading_checks s.now) ≡ Answer.Accepted) }
-    ensures { result ≡ decode_of s.now }
-{
-    let count = s[4] as usize;
-    let lines = scan(s, count);
-    let answer = lines.answer;
-    let at = lines.at;
-    let rules = lines.rules;
-    let subformulas = lines.subformulas;
-    match answer {
-        Answer::Refused(r) => refused(r),
-        Answer::Accepted => {
-            let closing = closing_answer(s.len(), at, rules);
-            match closing {
-                Answer::Refused(r) => refused(r),
-                Answer::Accepted => Decoded {
-                    answer: Answer::Accepted,
-                    policy: Policy {
-                        sizes: sizes_of(s),
-                        count: count,
-                        rules: rules,
-                        subformulas: subformulas,
-                    },
-                },
-            }
-        }
-    }
-}
-
 // Reads a policy, or says why it is refused.
-pub fn decode(s: &[u8]) -> Decoded
+pub fn decode(s: &[u8]) -> Result<Policy, Refusal>
     ensures { result ≡ decode_of s.now }
 {
     let length = s.len();
     if length < HEADING {
-        return refused(Refusal::TruncatedPolicy(length));
+        return Err(Refusal::TruncatedPolicy(length));
     }
-    let heading = heading_answer(s);
-    match heading {
-        Answer::Refused(r) => refused(r),
-        Answer::Accepted => decode_lines(s),
-    }
+    heading_answer(s)?;
+    let count = s[4] as usize;
+    let lines = scan(s, count)?;
+    closing_answer(length, lines.at, lines.rules)?;
+    let sizes = sizes_of(s);
+    let subformulas = lines.subformulas;
+    Ok(Policy {
+        sizes,
+        count,
+        rules: lines.rules,
+        subformulas,
+    })
 }
 
 // ---- what is written (02, request 3)
 
-// Is each heading number in range.
+// Is each heading number in range. The sizes come one by one, as the definitions and C's callers have them.
 pub fn heading_good(propositions: usize, components: usize, minutes: usize, count: usize) -> bool
     ensures { result ≡ heading_good propositions components minutes count }
 {
@@ -541,7 +429,7 @@ pub fn heading_good(propositions: usize, components: usize, minutes: usize, coun
     propositions_good & (components_good & (minutes_good & count_good))
 }
 
-// Is each field that the kind doesn't allow 0.
+// Is each field that the kind doesn't allow 0. Of numbers, where `is_allowed` is of a map's bits, by two definitions.
 fn is_zero_else(kind: Kind, line: LineNumbers) -> bool
     ensures { result ≡ zeros kind line.first line.second line.lower line.upper }
 {
@@ -553,55 +441,43 @@ fn is_zero_else(kind: Kind, line: LineNumbers) -> bool
 }
 
 // Does line i, of these numbers, keep every rule of the format.
+#[tactic(auto, unfolding(policy::specs::Text::line_good))]
 fn line_good(propositions: usize, i: usize, line: LineNumbers) -> bool
     ensures { result ≡ line_good propositions i line }
 {
-    let kind = line.kind as usize;
-    if kind >= KINDS.len() {
+    let Ok(kind) = LineKind::try_from(line.kind) else {
         return false;
-    }
-    let row = KINDS[kind];
-    let operands = row.operands;
+    };
+    let row = row_of(kind);
     let zeros = is_zero_else(row, line);
     let first = line.first as usize;
     let second = line.second as usize;
-    let referred = operands_good(operands, propositions, i, first, second);
+    let referred = operands_good(row.operands, propositions, i, first, second);
     let ordered = line.lower <= line.upper;
     let bounded = line.upper <= MOST_UPPER;
     zeros & (referred & (ordered & bounded))
 }
 
-// Do the first count lines keep them.
-fn lines_good(propositions: usize, lines: [LineNumbers; MOST_LINES], count: usize) -> bool
-    requires { count ≤ 64 }
-    ensures { result ≡ lines_good propositions lines count }
+// Do the lines, numbered from 0, keep them.
+fn lines_good(propositions: usize, lines: &[LineNumbers]) -> bool
+    ensures { result ≡ lines_good propositions lines.now (length lines.now) }
 {
-    let mut good = true;
-    let mut i = 0;
-    while i < count {
-        let line = lines[i];
-        good = good & line_good(propositions, i, line);
-        i += 1;
-    }
-    good
+    lines
+        .iter()
+        .enumerate()
+        .all(|(i, line)| line_good(propositions, i, *line))
 }
 
-// How many of the first count lines are rules.
-fn rules_among(lines: [LineNumbers; MOST_LINES], count: usize) -> usize
-    requires { count ≤ 64 }
-    ensures { result ≡ rules_among lines count }
+// How many of the lines are rules.
+#[tactic(auto, using(crate::proofs::Chains::all_rules))]
+fn rules_among(lines: &[LineNumbers]) -> usize
+    ensures { result ≡ rules_among lines.now (length lines.now) }
 {
-    let mut rules = 0;
-    let mut i = 0;
-    while i < count {
-        let line = lines[i];
-        rules += flag_if(line.rule, 1) as usize;
-        i += 1;
-    }
-    rules
+    lines.iter().filter(|line| line.rule).count()
 }
 
 // How many bytes a line takes.
+#[tactic(auto, using(crate::proofs::Writing::line_long))]
 fn line_size(line: LineNumbers) -> usize
     ensures { (result ≡ length (line_text line)) × (result ≤ 8) }
 {
@@ -613,19 +489,12 @@ fn line_size(line: LineNumbers) -> usize
     1 + kind + first + second + lower + upper
 }
 
-// How many bytes the first count lines take.
-fn lines_size(lines: [LineNumbers; MOST_LINES], count: usize) -> usize
-    requires { count ≤ 64 }
-    ensures { (result ≡ length (lines_text lines count)) × (result ≤ 512) }
+// How many bytes the lines take.
+fn lines_size(lines: &[LineNumbers]) -> usize
+    requires { length lines.now ≤ 64 }
+    ensures { (result ≡ length (lines_text lines.now (length lines.now))) × (result ≤ 512) }
 {
-    let mut size = 0;
-    let mut i = 0;
-    while i < count {
-        let line = lines[i];
-        size += line_size(line);
-        i += 1;
-    }
-    size
+    lines.iter().map(|line| line_size(*line)).sum()
 }
 
 // The map of a line: the fields that are written, and whether it is a rule.
@@ -642,6 +511,7 @@ fn line_map(line: LineNumbers) -> u8
 }
 
 // Writes a line, and says where the next one goes.
+#[tactic(auto, using(crate::proofs::Writing::line_long))]
 fn put_line(out: &mut [u8], at: usize, line: LineNumbers) -> usize
     requires { at + length (line_text line) ≤ length out.old }
     ensures { (result ≡ at + length (line_text line)) × (out.new ≡ sets out.old at (line_text line)) }
@@ -654,17 +524,14 @@ fn put_line(out: &mut [u8], at: usize, line: LineNumbers) -> usize
     put_field(out, upper, 2, line.upper as usize)
 }
 
-// Writes the first count lines behind the heading.
-fn put_lines(out: &mut [u8], lines: [LineNumbers; MOST_LINES], count: usize)
-    requires { (count ≤ 64) × (5 + length (lines_text lines count) ≤ length out.old) }
-    ensures { out.new ≡ sets out.old 5 (lines_text lines count) }
+// Writes the lines behind the heading.
+fn put_lines(out: &mut [u8], lines: &[LineNumbers])
+    requires { 5 + length (lines_text lines.now (length lines.now)) ≤ length out.old }
+    ensures { out.new ≡ sets out.old 5 (lines_text lines.now (length lines.now)) }
 {
     let mut at = HEADING;
-    let mut i = 0;
-    while i < count {
-        let line = lines[i];
-        at = put_line(out, at, line);
-        i += 1;
+    for line in lines {
+        at = put_line(out, at, *line);
     }
 }
 
@@ -686,7 +553,7 @@ fn put_heading(
 }
 
 // Writes the policy with these numbers, or says why it is refused; then nothing is written.
-pub fn encode(p: PolicyNumbers, out: &mut [u8]) -> Written
+pub fn encode(p: PolicyNumbers, out: &mut [u8]) -> Result<usize, Refusal>
     ensures { ◌≡◌ {A = Output} (record { answer = result; out = out.new }) (encode_of p out.old) }
 {
     let propositions = p.propositions;
@@ -694,20 +561,20 @@ pub fn encode(p: PolicyNumbers, out: &mut [u8]) -> Written
     let minutes = p.minutes;
     let count = p.count;
     if !heading_good(propositions, components, minutes, count) {
-        return Written::Refused(Refusal::BadHeading(0));
+        return Err(Refusal::BadHeading(0)); // what is to be written has no places
     }
-    let lines = p.lines;
-    if !lines_good(propositions, lines, count) {
-        return Written::Refused(Refusal::BadSubformula(0));
+    let lines = &p.lines[..count];
+    if !lines_good(propositions, lines) {
+        return Err(Refusal::BadSubformula(0));
     }
-    if !in_range(1, MOST_RULES, rules_among(lines, count)) {
-        return Written::Refused(Refusal::RuleCount);
+    if !in_range(1, MOST_RULES, rules_among(lines)) {
+        return Err(Refusal::RuleCount);
     }
-    let size = HEADING + lines_size(lines, count);
+    let size = HEADING + lines_size(lines);
     if out.len() < size {
-        return Written::Refused(Refusal::ShortBuffer);
+        return Err(Refusal::ShortBuffer);
     }
     put_heading(out, propositions, components, minutes, count);
-    put_lines(out, lines, count);
-    Written::Length(size)
+    put_lines(out, lines);
+    Ok(size)
 }

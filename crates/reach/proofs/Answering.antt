@@ -1,21 +1,19 @@
 -- What each way through the call answers. Assumes nothing.
+use Rattle.std.specs.Prelude.{Err, Ok}
 use Prim.Native.Nat.{ℕ, ◌≤◌, ◌<◌}
-use mathlib.Core.Path.{◌≡◌, sym, ap, ◌∙◌}
+use mathlib.Core.Path.{◌≡◌, refl, sym, ap, ◌∙◌}
 use mathlib.Core.List.{List, ◌++◌}
 use borrow.Author.Tests.{le-leb, lt-leb}
 use lib.ListN.{length, drop}
 use Rattle.rows.proofs.Grid.{table_length}
 use Rattle.refusal.specs.declared.Refusal.{Refusal}
 use Rattle.refusal.specs.declared.Refusal.TheVariants.{ShortBuffer}
-use Rattle.refusal.specs.declared.Answer.TheVariants as C
-use Rattle.refusal.specs.declared.Written.{Written}
-use Rattle.refusal.specs.declared.Written.TheVariants.{Length, Refused}
+use Rattle.refusal.specs.Writes.{Written}
 use Rattle.refusal.specs.Checks.{Check}
 use Rattle.refusal.specs.Writes.{Output}
-use Rattle.policy.specs.declared.Decoded.{Decoded}
 use Rattle.policy.specs.declared.Policy.{Policy}
 use Rattle.policy.specs.Format.{policy_of, decode_of}
-use Rattle.policy.proofs.Laws.{answered, handed_out}
+use Rattle.policy.proofs.Laws.{refused, handed_out}
 use Rattle.policy.proofs.ReadPolicy.{read_policy}
 use Rattle.policy.specs.Proper.{Proper}
 use Rattle.policy.proofs.CheckedFirst.{leaves_refused, leaves_written}
@@ -25,7 +23,7 @@ module _ (p : Policy) (out : List ℕ) where
   abbrev Answers : Written → List ℕ → Type 0
   Answers a o = ◌≡◌ {A = Output} (record { answer = a; out = o }) (reaches_under p out)
 
-  pub short_refused : length out < p.rules → Answers (Refused ShortBuffer) out
+  pub short_refused : length out < p.rules → Answers (Err ShortBuffer) out
   unfolding reaches_under
   short_refused h = rw (lt-leb p.rules (length out) h)
 
@@ -33,24 +31,24 @@ module _ (p : Policy) (out : List ℕ) where
   unfolding reaches_of
   many = table_length p.rules (rule_reach p)
 
-  pub all_written : p.rules ≤ length out → (out' : List ℕ) → out' ≡ reaches_of p ++ drop p.rules out → Answers (Length p.rules) out'
+  pub all_written : p.rules ≤ length out → (out' : List ℕ) → out' ≡ reaches_of p ++ drop p.rules out → Answers (Ok p.rules) out'
   unfolding reaches_under
   all_written h out' e = rw (le-leb p.rules (length out) h, many, e)
 
-module _ (s out : List ℕ) (d : Decoded) (same : d ≡ decode_of s) where
+module _ (s out : List ℕ) where
   abbrev later : List Check
   later = room_checks (policy_of s) (length out)
 
-  pub policy_refused : (r : Refusal) → d.answer ≡ C.Refused r → ◌≡◌ {A = Output} (record { answer = Refused r; out = out }) (rule_reaches s out)
+  pub policy_refused : (r : Refusal) → Err r ≡ decode_of s → ◌≡◌ {A = Output} (record { answer = Err r; out = out }) (rule_reaches s out)
   unfolding rule_reaches
-  policy_refused r e = sym (leaves_refused s later (reaches_of (policy_of s)) out r (answered s d (C.Refused r) same e))
+  policy_refused r e = sym (leaves_refused s later (reaches_of (policy_of s)) out r (refused s (Err r) r e refl))
 
-  pub proper_read : d.answer ≡ C.Accepted → Proper d.policy
-  proper_read e = (read_policy s d same e).proper
+  module _ (p : Policy) (e : Ok p ≡ decode_of s) where
+    pub proper_read : Proper p
+    proper_read = (read_policy s (Ok p) p e refl).proper
 
-  pub policy_read : d.answer ≡ C.Accepted → (o : Output) → o ≡ reaches_under d.policy out → o ≡ rule_reaches s out
-  unfolding rule_reaches reaches_under
-  policy_read e o f =
-      f
-      ∙ ap (λ (p : Policy). reaches_under p out) (handed_out s d same e)
-      ∙ sym (leaves_written s later (reaches_of (policy_of s)) out (answered s d C.Accepted same e))
+    pub policy_read : (o : Output) → o ≡ reaches_under p out → o ≡ rule_reaches s out
+    unfolding rule_reaches reaches_under
+    policy_read o f =
+        let h = handed_out s (Ok p) p e refl in
+        f ∙ ap (λ (q : Policy). reaches_under q out) h.1 ∙ sym (leaves_written s later (reaches_of (policy_of s)) out h.0)

@@ -2,11 +2,10 @@
 use Prim.Native.Nat.{ℕ, ◌+◌, ◌<◌}
 use native.Mathlib.Omega.{arith}
 use native.Mathlib.Decide.{ℕ_discrete}
-use mathlib.Core.Path.{◌≡◌, sym, subst, ◌∙◌}
+use mathlib.Core.Path.{◌≡◌, sym, ◌∙◌}
 use mathlib.Core.List.{List}
 use lib.ListN.{get_or, length, set, length-set}
 use lib.Seq.{get_or-set_same, get_or-set_other}
-use Rattle.mtl.specs.declared.Formula.{Formula}
 use Rattle.mtl.specs.Abbreviations.{abbreviation}
 use Rattle.mtl.proofs.Abbreviations.{leaves_map}
 use Rattle.policy.specs.declared.Policy.{Policy}
@@ -14,10 +13,6 @@ use Rattle.policy.specs.Proper.{Proper, formula_at}
 use Rattle.reach.specs.Reach.{reach_from, reach}
 use Rattle.reach.proofs.Laws.{same_from, unroll_reach, small_reach}
 use Rattle.reach.specs.Lines.{Workable}
-
--- of the formula of an arm
-pub its : {reaches : List ℕ} {φ ψ : Formula} → φ ≡ ψ → Workable reaches φ → Workable reaches ψ
-its {reaches} e w = subst (Workable reaches) e w
 
 -- the first i lines are done
 pub record Done (p : Policy) (reaches : List ℕ) (i : ℕ) : Type 0 where

@@ -1,5 +1,5 @@
 -- The call's checks are the card's, and then one of its own; what it writes is the table of reaches, and the rest. Assumes nothing.
-use Rattle.std.specs.Prelude.{ℕ, ◌+◌, ◌-◌, ◌≤◌, ◌<◌, ◌≡◌, refl, ◌⊎◌, ◌↔◌, drop}
+use Rattle.std.specs.Prelude.{ℕ, ◌+◌, ◌-◌, ◌≤◌, ◌<◌, ◌≡◌, refl, ◌⊎◌, ◌↔◌, drop, Err, Ok}
 use Rattle.std.proofs.Common.{arith, subst, ◌∙◌, inl, inr, leb-true, leb-false, le-leb, get_or-drop}
 use Rattle.std.proofs.Math.Path.{sym, ap}
 use mathlib.Core.List.{List, ◌++◌}
@@ -9,13 +9,11 @@ use Rattle.rows.proofs.Grid.{table_length, table_at}
 use Rattle.rows.proofs.Parts.{get_d_past}
 use Rattle.refusal.specs.declared.Refusal.{Refusal}
 use Rattle.refusal.specs.declared.Refusal.TheVariants.{ShortBuffer}
-use Rattle.refusal.specs.declared.Answer.{Answer}
-use Rattle.refusal.specs.declared.Answer.TheVariants as C
-use Rattle.refusal.specs.declared.Written.TheVariants.{Length, Refused}
+use Rattle.refusal.specs.Checks.{Checked, reply}
 use Rattle.refusal.specs.Numbers.{refusal_number}
 use Rattle.refusal.specs.Checks.{Check, first_failed, Passed, none, pass, Refuses, here, there, RefusedWith}
 use Rattle.refusal.proofs.Laws.{number_law, passing_law, refused_where}
-use Rattle.refusal.specs.Writes.{written, reply}
+use Rattle.refusal.specs.Writes.{written}
 use Rattle.refusal.proofs.Writes.{alike, told, kept_rest, unwritten}
 use Rattle.policy.specs.declared.Policy.{Policy}
 use Rattle.policy.specs.Format.{policy_checks, policy_of, answer_of}
@@ -73,13 +71,13 @@ module _ (s out : List ℕ) where
       go (inl f) = inl (policy_refuses s r f)
       go (inr f) = inr (eleven_only r f.1)
 
-  passed : Passed cs ↔ ((answer_of s ≡ C.Accepted) × (p.rules ≤ length out))
+  passed : Passed cs ↔ ((answer_of s ≡ Ok tt) × (p.rules ≤ length out))
   passed = (λ q. let f = (both_passed s later).0 q in (f.0, room f.1), λ q. (both_passed s later).1 (q.0, pass (le-leb _ _ q.1) none))
     where
       room : Passed later → p.rules ≤ length out
       room (pass a none) = leb-true _ _ a
 
-  done : (n : ℕ) → ((rule_reaches s out).answer ≡ Length n) ↔ ((answer_of s ≡ C.Accepted) × (p.rules ≤ length out) × (n ≡ p.rules))
+  done : (n : ℕ) → ((rule_reaches s out).answer ≡ Ok n) ↔ ((answer_of s ≡ Ok tt) × (p.rules ≤ length out) × (n ≡ p.rules))
   unfolding rule_reaches
   done n = (
     λ e. let t = (told text out (first_failed cs) n).0 e in let q = passed.0 ((passing_law cs).0 t.0) in (q.0, q.1, t.1 ∙ many),
@@ -87,11 +85,11 @@ module _ (s out : List ℕ) where
   )
 
   -- what is written
-  written_out : (n : ℕ) → (rule_reaches s out).answer ≡ Length n → (rule_reaches s out).out ≡ text ++ drop n out
+  written_out : (n : ℕ) → (rule_reaches s out).answer ≡ Ok n → (rule_reaches s out).out ≡ text ++ drop n out
   unfolding rule_reaches
   written_out n e = kept_rest text out (first_failed cs) n e
 
-  cell : (n : ℕ) → (rule_reaches s out).answer ≡ Length n → (r : ℕ) → r < n → get_or (rule_reaches s out).out r 0 ≡ rule_reach p r
+  cell : (n : ℕ) → (rule_reaches s out).answer ≡ Ok n → (r : ℕ) → r < n → get_or (rule_reaches s out).out r 0 ≡ rule_reach p r
   unfolding reaches_of
   cell n e r l =
       let d = (done n).0 e in
@@ -99,18 +97,18 @@ module _ (s out : List ℕ) where
       ∙ get_or-append text (drop n out) 0 r (omega (arith, many, d.2))
       ∙ table_at p.rules (rule_reach p) r 0 (omega (arith, d.2))
 
-  not_written : (r : Refusal) → (rule_reaches s out).answer ≡ Refused r → (rule_reaches s out).out ≡ out
+  not_written : (r : Refusal) → (rule_reaches s out).answer ≡ Err r → (rule_reaches s out).out ≡ out
   unfolding rule_reaches
   not_written r e = unwritten text out (first_failed cs) r e
 
-  kept_length : (a : Answer) → first_failed cs ≡ a → length (rule_reaches s out).out ≡ length out
+  kept_length : (a : Checked) → first_failed cs ≡ a → length (rule_reaches s out).out ≡ length out
   unfolding rule_reaches
-  kept_length C.Accepted e =
+  kept_length (Ok _) e =
       let q = passed.0 ((passing_law cs).0 e) in
-      ap (λ (b : Answer). length (written b text out).out) e
+      ap (λ (b : Checked). length (written b text out).out) e
       ∙ length-append text (drop (length text) out)
       ∙ simp length-drop (omega (arith, many, q.1))
-  kept_length (C.Refused r) e = ap (λ (b : Answer). length (written b text out).out) e
+  kept_length (Err r) e = ap (λ (b : Checked). length (written b text out).out) e
 
   pub causes : ReachCauses s out (rule_reaches s out)
   causes = record {

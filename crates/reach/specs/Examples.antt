@@ -1,9 +1,8 @@
 -- The call on the bytes of cards, computed: 01's card K, which looks back; K with an until in its place; one with three rules, whose reaches differ; and
 -- refusals.
-use Rattle.std.specs.Prelude.{ℕ, ◌≡◌, List, [], ◌∷◌}
+use Rattle.std.specs.Prelude.{ℕ, ◌≡◌, List, [], ◌∷◌, Err, Ok}
 use Rattle.refusal.specs.declared.Refusal.TheVariants.{TruncatedPolicy, ShortBuffer}
-use Rattle.refusal.specs.declared.Written.{Written}
-use Rattle.refusal.specs.declared.Written.TheVariants.{Length, Refused}
+use Rattle.refusal.specs.Writes.{Written}
 use Rattle.refusal.specs.Writes.{Output}
 use Rattle.reach.specs.Reaches.{rule_reaches}
 
@@ -29,10 +28,10 @@ abbrev gives : Written → List ℕ → Output
 gives a out = record { answer = a; out = out }
 
 pub record Examples : Type 0 where
-  pub looks_back : rule_reaches K (9 ∷ []) ≡ gives (Length 1) (0 ∷ [])
-  pub looks_ahead : rule_reaches U (9 ∷ []) ≡ gives (Length 1) (1 ∷ [])
+  pub looks_back : rule_reaches K (9 ∷ []) ≡ gives (Ok 1) (0 ∷ [])
+  pub looks_ahead : rule_reaches U (9 ∷ []) ≡ gives (Ok 1) (1 ∷ [])
   -- each rule's at the place of its number, and the rest is kept
-  pub in_order : rule_reaches three_rules (9 ∷ 9 ∷ 9 ∷ 9 ∷ []) ≡ gives (Length 3) (5 ∷ 0 ∷ 12 ∷ 9 ∷ [])
-  pub no_room : rule_reaches three_rules (9 ∷ 9 ∷ []) ≡ gives (Refused ShortBuffer) (9 ∷ 9 ∷ [])
+  pub in_order : rule_reaches three_rules (9 ∷ 9 ∷ 9 ∷ 9 ∷ []) ≡ gives (Ok 3) (5 ∷ 0 ∷ 12 ∷ 9 ∷ [])
+  pub no_room : rule_reaches three_rules (9 ∷ 9 ∷ []) ≡ gives (Err ShortBuffer) (9 ∷ 9 ∷ [])
   -- the card comes first
-  pub no_card : rule_reaches [] [] ≡ gives (Refused (TruncatedPolicy 0)) []
+  pub no_card : rule_reaches [] [] ≡ gives (Err (TruncatedPolicy 0)) []

@@ -10,11 +10,8 @@ ghost use Rattle.reach.specs.Lines.{Workable};
 ghost use Rattle.reach.specs.Reaches.{reaches_of, reaches_under, rule_reaches};
 
 use mtl::Formula;
-use policy::Policy;
-use refusal::{Answer, Refusal, Written};
-
-// The most lines of a policy.
-const MOST_LINES: usize = 64;
+use policy::{MOST_LINES, Policy};
+use refusal::Refusal;
 
 // The reach of line i.
 fn reach_at(reaches: &[u16; MOST_LINES], i: u8) -> u16
@@ -29,9 +26,7 @@ fn larger_at(reaches: &[u16; MOST_LINES], i: u8, j: u8) -> u16
     requires { (i < 64) × (j < 64) }
     ensures { result ≡ max (get_or reaches.now i 0) (get_or reaches.now j 0) }
 {
-    let first = reach_at(reaches, i);
-    let second = reach_at(reaches, j);
-    if first < second { second } else { first }
+    reach_at(reaches, i).max(reach_at(reaches, j))
 }
 
 // The reach of a line, from the reaches of those before it: its operands', and upper more where it looks ahead.
@@ -40,44 +35,22 @@ fn reach_from(reaches: &[u16; MOST_LINES], formula: Formula) -> u16
     ensures { result ≡ reach_from (λ i. get_or reaches.now i 0) formula }
 {
     match formula {
-        Formula::True => 0,
-        Formula::Proposition(_) => 0,
+        Formula::True | Formula::Proposition(_) => 0,
         Formula::Not(i) => reach_at(reaches, i),
-        Formula::Or(i, j) => larger_at(reaches, i, j),
-        Formula::Since {
-            left,
-            right,
-            lower: _,
-            upper: _,
-        } => larger_at(reaches, left, right),
+        Formula::Or(i, j) | Formula::And(i, j) | Formula::Implies(i, j) => larger_at(reaches, i, j),
+        Formula::Since { left, right, .. } => larger_at(reaches, left, right),
         Formula::Until {
             left,
             right,
-            lower: _,
             upper,
+            ..
         } => larger_at(reaches, left, right) + upper,
-        Formula::And(i, j) => larger_at(reaches, i, j),
-        Formula::Implies(i, j) => larger_at(reaches, i, j),
-        Formula::Once {
-            operand,
-            lower: _,
-            upper: _,
-        } => reach_at(reaches, operand),
-        Formula::Historically {
-            operand,
-            lower: _,
-            upper: _,
-        } => reach_at(reaches, operand),
-        Formula::Eventually {
-            operand,
-            lower: _,
-            upper,
-        } => reach_at(reaches, operand) + upper,
-        Formula::Always {
-            operand,
-            lower: _,
-            upper,
-        } => reach_at(reaches, operand) + upper,
+        Formula::Once { operand, .. } | Formula::Historically { operand, .. } => {
+            reach_at(reaches, operand)
+        }
+        Formula::Eventually { operand, upper, .. } | Formula::Always { operand, upper, .. } => {
+            reach_at(reaches, operand) + upper
+        }
     }
 }
 
@@ -86,63 +59,48 @@ fn line_reaches(policy: Policy) -> [u16; MOST_LINES]
     requires { Proper policy }
     ensures { (k : ℕ) → k < policy.count → get_or result k 0 ≡ reach (formula_at policy) k }
 {
-    let count = policy.count;
     let mut reaches = [0u16; MOST_LINES];
-    let mut i = 0;
-    while i < count {
-        let line = policy.subformulas[i];
-        let formula = line.formula;
-        let reach = reach_from(&reaches, formula);
-        reaches[i] = reach;
-        i += 1;
+    for i in 0..policy.count {
+        reaches[i] = reach_from(&reaches, policy.subformulas[i].formula);
     }
     reaches
 }
 
-// Writes the reach of each rule, from the reaches of the lines. The rest of a longer buffer stays as it was.
+// Writes the reach of each rule, from the reaches of the lines. The rest of a longer buffer stays as it was. `at` is counted by hand: it moves on at a
+// rule only.
 fn put_reaches(policy: Policy, reaches: &[u16; MOST_LINES], out: &mut [u16])
     requires { (Proper policy) × (policy.rules ≤ length out.old)
         × ((k : ℕ) → k < policy.count → get_or reaches.now k 0 ≡ reach (formula_at policy) k) }
     ensures { out.new ≡ reaches_of policy ++ drop policy.rules out.old }
 {
-    let count = policy.count;
     let mut at: usize = 0;
-    let mut i: usize = 0;
-    while i < count {
-        let line = policy.subformulas[i];
-        if line.rule {
+    for i in 0..policy.count {
+        if policy.subformulas[i].rule {
             out[at] = reaches[i];
             at += 1;
         }
-        i += 1;
     }
 }
 
 // The same for a policy that was read, where there is room for them.
-fn reaches_under(policy: Policy, out: &mut [u16]) -> Written
+#[tactic(auto, using(crate::proofs::Answering::short_refused, crate::proofs::Answering::all_written))]
+fn reaches_under(policy: Policy, out: &mut [u16]) -> Result<usize, Refusal>
     requires { Proper policy }
     ensures { ◌≡◌ {A = Output} (record { answer = result; out = out.new }) (reaches_under policy out.old) }
 {
     let rules = policy.rules;
     if out.len() < rules {
-        return Written::Refused(Refusal::ShortBuffer);
+        return Err(Refusal::ShortBuffer);
     }
     let reaches = line_reaches(policy);
     put_reaches(policy, &reaches, out);
-    Written::Length(rules)
+    Ok(rules)
 }
 
 // Writes the reach of each rule of an encoded policy, and gives how many there are; or says why it is refused, and then nothing is written.
-pub fn rule_reaches(policy: &[u8], out: &mut [u16]) -> Written
+pub fn rule_reaches(policy: &[u8], out: &mut [u16]) -> Result<usize, Refusal>
     ensures { ◌≡◌ {A = Output} (record { answer = result; out = out.new }) (rule_reaches policy.now out.old) }
 {
-    let decoded = policy_codec::decode(policy);
-    let answer = decoded.answer;
-    match answer {
-        Answer::Refused(r) => Written::Refused(r),
-        Answer::Accepted => {
-            let p = decoded.policy;
-            reaches_under(p, out)
-        }
-    }
+    let p = policy_codec::decode(policy)?;
+    reaches_under(p, out)
 }

@@ -1,51 +1,67 @@
 -- Laws of the definitions in specs/Laws. Assumes nothing.
-use Rattle.std.specs.Prelude.{ℕ, ◌≡◌, refl, Bool, true, false, cond, ◌↔◌, ◌⊎◌, List, [], ◌∷◌, ◌++◌, eqb}
+use Rattle.std.specs.Prelude.{ℕ, ◌≡◌, refl, Bool, true, false, cond, ◌↔◌, ◌⊎◌, List, [], ◌∷◌, ◌++◌, eqb, Result, Err, Ok}
 use Rattle.std.proofs.Common.{arith, sym, ap, ap₂, subst, ◌∙◌, true≢false, inl, inr, eq-eqb}
 use Rattle.std.proofs.Math.Bool.{or-true}
 use Rattle.refusal.specs.declared.Refusal.{Refusal}
-use Rattle.refusal.specs.declared.Answer.{Answer}
-use Rattle.refusal.specs.declared.Answer.TheVariants.{Accepted, Refused}
+use Rattle.refusal.specs.Checks.{Checked}
 use Rattle.refusal.specs.Numbers.{refusal_number, refusal_place, refusal_of}
 use Rattle.refusal.proofs.Numbers.{only_one}
-use Rattle.refusal.specs.Checks.{Check, first_failed, and_then, Passed, none, pass, Refuses, here, there, RefusedWith}
+use Rattle.refusal.specs.Checks.{Check, give_unless, reply, first_failed, and_then, Passed, none, pass, Refuses, here, there, RefusedWith}
 use Rattle.refusal.specs.Laws.{numbered}
 
-pub not_accepted : (r : Refusal) → Refused r ≡ Accepted → ⊥
+pub not_accepted : (r : Refusal) → ◌≡◌ {A = Checked} (Err r) (Ok tt) → ⊥
 not_accepted r e = let z : ◌≡◌ {A = ℕ} 0 1 = cc in omega arith
 
-pub same_refusal : (r q : Refusal) → Refused r ≡ Refused q → r ≡ q
+pub same_refusal : {A : Type 0} (r q : Refusal) → ◌≡◌ {A = Result A Refusal} (Err r) (Err q) → r ≡ q
 same_refusal r q e = cc
+
+-- ---- what is given unless a check refuses
+
+pub given : {A : Type 0} (a : Checked) (x y : A) → give_unless a x ≡ Ok y → (a ≡ Ok tt) × (y ≡ x)
+given (Ok _) x y e = (refl, cc)
+given {A = A} (Err r) x y e = absurd (let z : ◌≡◌ {A = ℕ} 0 1 = cc in omega arith)
+
+pub withheld : {A : Type 0} (a : Checked) (x : A) (r : Refusal) → give_unless a x ≡ Err r → a ≡ Err r
+withheld (Ok _) x r e = absurd (let z : ◌≡◌ {A = ℕ} 0 1 = cc in omega arith)
+withheld (Err q) x r e = cc
+
+pub same_given : {A : Type 0} (x y : A) → ◌≡◌ {A = Result A Refusal} (Ok x) (Ok y) → x ≡ y
+same_given x y e = cc
+
+pub replied : {A : Type 0} (a : Checked) (x : A) → reply (give_unless a x) ≡ a
+replied (Ok _) x = refl
+replied (Err r) x = refl
 
 -- ---- from the answer to the tests, and back
 
-refused_by : (cs : List Check) (r : Refusal) → first_failed cs ≡ Refused r → Refuses cs r
+refused_by : (cs : List Check) (r : Refusal) → first_failed cs ≡ Err r → Refuses cs r
 refused_by [] r e = absurd (not_accepted r (sym e))
 refused_by (c ∷ cs) r e = go (refused_by cs r) c.passed refl e
   where
-    go : (first_failed cs ≡ Refused r → Refuses cs r) → (b : Bool) → c.passed ≡ b → cond b (first_failed cs) (Refused c.refusal) ≡ Refused r → Refuses (c ∷ cs) r
+    go : (first_failed cs ≡ Err r → Refuses cs r) → (b : Bool) → c.passed ≡ b → cond b (first_failed cs) (Err c.refusal) ≡ Err r → Refuses (c ∷ cs) r
     go rest true p f = there p (rest f)
     go rest false p f = subst (Refuses (c ∷ cs)) (same_refusal c.refusal r f) (here p)
 
-refuses_with : {cs : List Check} {r : Refusal} → Refuses cs r → first_failed cs ≡ Refused r
+refuses_with : {cs : List Check} {r : Refusal} → Refuses cs r → first_failed cs ≡ Err r
 refuses_with (here p) = rw p
 refuses_with (there p q) = rw p (refuses_with q)
 
-pub refusal_law : (cs : List Check) (r : Refusal) → (first_failed cs ≡ Refused r) ↔ Refuses cs r
+pub refusal_law : (cs : List Check) (r : Refusal) → (first_failed cs ≡ Err r) ↔ Refuses cs r
 refusal_law cs r = (refused_by cs r, λ q. refuses_with q)
 
-passed_all : (cs : List Check) → first_failed cs ≡ Accepted → Passed cs
+passed_all : (cs : List Check) → first_failed cs ≡ Ok tt → Passed cs
 passed_all [] e = none
 passed_all (c ∷ cs) e = go (passed_all cs) c.passed refl e
   where
-    go : (first_failed cs ≡ Accepted → Passed cs) → (b : Bool) → c.passed ≡ b → cond b (first_failed cs) (Refused c.refusal) ≡ Accepted → Passed (c ∷ cs)
+    go : (first_failed cs ≡ Ok tt → Passed cs) → (b : Bool) → c.passed ≡ b → cond b (first_failed cs) (Err c.refusal) ≡ Ok tt → Passed (c ∷ cs)
     go rest true p f = pass p (rest f)
     go rest false p f = absurd (not_accepted c.refusal f)
 
-goes_on : {cs : List Check} → Passed cs → first_failed cs ≡ Accepted
+goes_on : {cs : List Check} → Passed cs → first_failed cs ≡ Ok tt
 goes_on none = refl
 goes_on (pass p q) = rw p (goes_on q)
 
-pub passing_law : (cs : List Check) → (first_failed cs ≡ Accepted) ↔ Passed cs
+pub passing_law : (cs : List Check) → (first_failed cs ≡ Ok tt) ↔ Passed cs
 passing_law cs = (passed_all cs, λ q. goes_on q)
 
 -- ---- lists of checks, one after another
@@ -55,7 +71,7 @@ in_order [] ys = refl
 in_order (c ∷ cs) ys = go (in_order cs ys) c.passed
   where
     go : first_failed (cs ++ ys) ≡ and_then (first_failed cs) (first_failed ys) → (b : Bool)
-        → cond b (first_failed (cs ++ ys)) (Refused c.refusal) ≡ and_then (cond b (first_failed cs) (Refused c.refusal)) (first_failed ys)
+        → cond b (first_failed (cs ++ ys)) (Err c.refusal) ≡ and_then (cond b (first_failed cs) (Err c.refusal)) (first_failed ys)
     go rest true = rest
     go rest false = refl
 
@@ -111,7 +127,7 @@ other_number e q = true≢false (sym (its_number q) ∙ e)
 
 -- ---- answers by number and place
 
-pub the_refusal : {a : Answer} {n at : ℕ} (w : RefusedWith a n at) → w.refusal ≡ refusal_of n at
+pub the_refusal : {a : Checked} {n at : ℕ} (w : RefusedWith a n at) → w.refusal ≡ refusal_of n at
 the_refusal w = sym (only_one w.refusal) ∙ ap₂ refusal_of w.number w.place
 
 -- a list is refused with a number and place exactly when it gives the refusal that has them
@@ -122,7 +138,7 @@ number_law cs n at = (there, back)
     there : RefusedWith (first_failed cs) n at → Refuses cs (refusal_of n at) × (refusal_number (refusal_of n at) ≡ n) × (refusal_place (refusal_of n at) ≡ at)
     there w =
         let e = the_refusal w in (
-          refused_by cs (refusal_of n at) (w.is ∙ ap Refused e),
+          refused_by cs (refusal_of n at) (w.is ∙ ap Err e),
           ap refusal_number (sym e) ∙ w.number,
           ap refusal_place (sym e) ∙ w.place,
         )

@@ -4,8 +4,10 @@
 ghost use Rattle.std.specs.Prelude.{◌≡◌, ◌+◌, ◌<◌, ◌^◌};
 ghost use Rattle.refusal.specs.Numbers.{refusal_number, refusal_place, packet_place};
 
+use std::fmt;
+
 // A place stands beside each reason that has one; the others have place 0.
-#[derive(Clone, Copy)]
+#[derive(Clone, Copy, Debug, PartialEq, Eq)]
 pub enum Refusal {
     // 1, cut card
     TruncatedPolicy(usize),
@@ -37,84 +39,79 @@ pub enum Refusal {
     RuleLimit(usize),
 }
 
-// What a check answers, or a call's checks one after another: they let it pass, or the first that fails refuses it.
-#[derive(Clone, Copy)]
-pub enum Answer {
-    Accepted,
-    Refused(Refusal),
-}
+impl Refusal {
+    // The number that a refusal carries.
+    pub fn number(self) -> u8
+        ensures { result ≡ refusal_number self }
+    {
+        match self {
+            Refusal::TruncatedPolicy(_) => 1,
+            Refusal::BadHeading(_) => 2,
+            Refusal::BadSubformula(_) => 3,
+            Refusal::RuleCount => 4,
+            Refusal::BufferSize => 5,
+            Refusal::CorruptKnowledge => 6,
+            Refusal::TruncatedMessage(_) => 7,
+            Refusal::BadMessage => 8,
+            Refusal::Conflict => 9,
+            Refusal::OutOfRange => 10,
+            Refusal::ShortBuffer => 11,
+            Refusal::OtherPolicy => 12,
+            Refusal::RuleSyntax(_) => 13,
+            Refusal::RuleLimit(_) => 14,
+        }
+    }
 
-// What a call that writes a text answers: how long the text is, or why nothing was written.
-#[derive(Clone, Copy)]
-pub enum Written {
-    Length(usize),
-    Refused(Refusal),
-}
+    // The place that a refusal carries.
+    pub fn place(self) -> usize
+        ensures { result ≡ refusal_place self }
+    {
+        match self {
+            Refusal::TruncatedPolicy(at) => at,
+            Refusal::BadHeading(at) => at,
+            Refusal::BadSubformula(at) => at,
+            Refusal::RuleCount => 0,
+            Refusal::BufferSize => 0,
+            Refusal::CorruptKnowledge => 0,
+            Refusal::TruncatedMessage(at) => at,
+            Refusal::BadMessage => 0,
+            Refusal::Conflict => 0,
+            Refusal::OutOfRange => 0,
+            Refusal::ShortBuffer => 0,
+            Refusal::OtherPolicy => 0,
+            Refusal::RuleSyntax(at) => at,
+            Refusal::RuleLimit(at) => at,
+        }
+    }
 
-// The number that a refusal carries.
-pub fn number(r: Refusal) -> u8
-    ensures { result ≡ refusal_number r }
-{
-    match r {
-        Refusal::TruncatedPolicy(_) => 1,
-        Refusal::BadHeading(_) => 2,
-        Refusal::BadSubformula(_) => 3,
-        Refusal::RuleCount => 4,
-        Refusal::BufferSize => 5,
-        Refusal::CorruptKnowledge => 6,
-        Refusal::TruncatedMessage(_) => 7,
-        Refusal::BadMessage => 8,
-        Refusal::Conflict => 9,
-        Refusal::OutOfRange => 10,
-        Refusal::ShortBuffer => 11,
-        Refusal::OtherPolicy => 12,
-        Refusal::RuleSyntax(_) => 13,
-        Refusal::RuleLimit(_) => 14,
+    // The place of a refusal in a packet, counted from the packet's start, where its message starts at byte `start`; what is checked before 7 keeps
+    // its place.
+    pub fn place_in_packet(self, start: usize) -> usize
+        requires { packet_place start self < 2 ^ 64 }
+        ensures { result ≡ packet_place start self }
+    {
+        match self {
+            Refusal::TruncatedPolicy(_) => self.place(),
+            Refusal::BadHeading(_) => self.place(),
+            Refusal::BadSubformula(_) => self.place(),
+            Refusal::RuleCount => self.place(),
+            Refusal::BufferSize => self.place(),
+            Refusal::CorruptKnowledge => self.place(),
+            Refusal::TruncatedMessage(at) => start + at,
+            Refusal::BadMessage => start,
+            Refusal::Conflict => start,
+            Refusal::OutOfRange => self.place(),
+            Refusal::ShortBuffer => self.place(),
+            Refusal::OtherPolicy => self.place(),
+            Refusal::RuleSyntax(_) => self.place(),
+            Refusal::RuleLimit(_) => self.place(),
+        }
     }
 }
 
-// The place that a refusal carries.
-pub fn place(r: Refusal) -> usize
-    ensures { result ≡ refusal_place r }
-{
-    match r {
-        Refusal::TruncatedPolicy(at) => at,
-        Refusal::BadHeading(at) => at,
-        Refusal::BadSubformula(at) => at,
-        Refusal::RuleCount => 0,
-        Refusal::BufferSize => 0,
-        Refusal::CorruptKnowledge => 0,
-        Refusal::TruncatedMessage(at) => at,
-        Refusal::BadMessage => 0,
-        Refusal::Conflict => 0,
-        Refusal::OutOfRange => 0,
-        Refusal::ShortBuffer => 0,
-        Refusal::OtherPolicy => 0,
-        Refusal::RuleSyntax(at) => at,
-        Refusal::RuleLimit(at) => at,
-    }
-}
-
-// The place of a refusal in a packet, counted from the packet's start, where its message starts at byte `start`; what is checked before 7 keeps
-// its place.
-pub fn place_in_packet(r: Refusal, start: usize) -> usize
-    requires { packet_place start r < 2 ^ 64 }
-    ensures { result ≡ packet_place start r }
-{
-    match r {
-        Refusal::TruncatedPolicy(_) => place(r),
-        Refusal::BadHeading(_) => place(r),
-        Refusal::BadSubformula(_) => place(r),
-        Refusal::RuleCount => place(r),
-        Refusal::BufferSize => place(r),
-        Refusal::CorruptKnowledge => place(r),
-        Refusal::TruncatedMessage(at) => start + at,
-        Refusal::BadMessage => start,
-        Refusal::Conflict => start,
-        Refusal::OutOfRange => place(r),
-        Refusal::ShortBuffer => place(r),
-        Refusal::OtherPolicy => place(r),
-        Refusal::RuleSyntax(_) => place(r),
-        Refusal::RuleLimit(_) => place(r),
+// The number and the place, as the programs print them.
+impl fmt::Display for Refusal {
+    fn fmt<W: fmt::Write>(&self, f: &mut fmt::Formatter<W>) -> fmt::Result {
+        write!(f, "{} at {}", self.number(), self.place())
     }
 }

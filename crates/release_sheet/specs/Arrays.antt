@@ -1,6 +1,6 @@
 -- The sizes of the arrays that the printing program holds, those of the largest policy (01: the largest record), and the parts that a policy needs of them.
 use Rattle.std.specs.Prelude.{◌≡◌, ℕ, ◌*◌, ◌≤◌, List, length}
-use Rattle.release_sheet.specs.declared.Parts.{Parts}
+use Rattle.release_sheet.specs.declared.parts.Parts.{Parts}
 
 -- 16 components of 1,025 numbers, two facts for each of 1,024 minutes, 64 rows of the valuation and 8 of the verdicts, and the longest policy
 pub record Largest (n f v d o : List ℕ) : Type 0 where

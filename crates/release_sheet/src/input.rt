@@ -1,131 +1,106 @@
-// Standard input, read in large pieces into a buffer that the caller holds.
-ghost use Rattle.std.specs.Prelude.{◌≡◌, ◌+◌, ◌<◌, ◌≤◌, length};
+// Standard input, read in large pieces.
+ghost use Rattle.std.specs.Prelude.{◌≡◌, ◌-◌, ◌≤◌, length, min, take, drop};
 
-use crate::{report, retry};
+use crate::retry;
 use std::io::{Input, Read};
 use std::rt::Clock;
 
-// The bytes of the buffer that are read and not yet used, whether more may come, and how many bytes of the input came before the buffer's.
-#[derive(Clone, Copy)]
-pub struct Window {
-    pub at: usize,
-    pub end: usize,
-    pub more: bool,
-    pub before: u64,
+// How much is read at once.
+const PIECE: usize = 65536;
+
+// As many bytes as a message with its length byte can have.
+const LONGEST_MESSAGE: usize = 256;
+
+// Standard input and the bytes of it that are read: those of the buffer that are not yet used, whether more may come, and how many bytes came
+// before the buffer's.
+// A buffer beside its places: fixed memory, no heap.
+#[derive(Drop)]
+pub struct Source<'a, R> {
+    rt: &'a R,
+    buffer: [u8; PIECE],
+    at: usize,
+    end: usize,
+    more: bool,
+    before: u64,
+    ghost read: { at ≤ end },
+    ghost held: { end ≤ 65536 },
 }
 
-// One read of standard input, made again where that may help; 0 at its end, and where it failed.
-fn read_some(rt: &(impl Input + Clock), part: &mut [u8]) -> usize
-    ensures { result ≤ length part.old }
-{
-    let mut turns = retry::TURNS;
-    while turns > 0 {
-        match rt.reader().read(part) {
-            Ok(got) => {
-                return got;
-            }
-            Err(error) => {
-                turns = retry::turns_left(rt, turns, error);
-                if turns == 0 {
-                    report::input_cut(error);
-                }
-            }
-        }
-    }
-    0
-}
-
-// Reads from a place on until the buffer is full or the input ends, and answers where the bytes end.
+// Reads from a place on until the buffer is full or the input ends, and answers where the bytes end. What was read before a read that failed
+// counts as all of the input.
 fn fill(rt: &(impl Input + Clock), buffer: &mut [u8], from: usize) -> usize
     requires { from ≤ length buffer.old }
     ensures { result ≤ length buffer.old }
 {
     let mut end = from;
-    while end < buffer.len() {
-        let got = read_some(rt, &mut buffer[end..]);
-        if got == 0 {
-            return end;
+    for _ in 0..retry::TURNS {
+        if end == buffer.len() {
+            break;
         }
-        end += got;
+        match rt.reader().read(&mut buffer[end..]) {
+            Ok(0) => break,
+            Ok(got) => end += got,
+            Err(error) => {
+                if let Err(error) = retry::again(rt, error) {
+                    failures::tell(b"input cut", error);
+                    break;
+                }
+            }
+        }
     }
     end
 }
 
-// Moves the bytes from at to end to the buffer's front.
-fn move_to_front(buffer: &mut [u8], at: usize, end: usize)
-    requires { (at ≤ end) × (end ≤ length buffer.old) }
-{
-    let mut to = 0;
-    let mut from = at;
-    while from < end {
-        buffer[to] = buffer[from];
-        to += 1;
-        from += 1;
-    }
-}
-
-// The place in the input of the next byte. No input has 2 ^ 64 bytes.
-pub fn position(window: Window) -> u64 {
-    std::num::wrapping_add_u64(window.before, window.at as u64)
-}
-
-// Keeps what is not yet used, and fills the rest of the buffer.
-fn refill(rt: &(impl Input + Clock), buffer: &mut [u8], window: Window) -> Window
-    requires { (window.at ≤ window.end) × (window.end ≤ length buffer.old) }
-    ensures { (result.at ≤ result.end) × (result.end ≤ length buffer.old) }
-{
-    let at = window.at;
-    let end = window.end;
-    move_to_front(buffer, at, end);
-    let filled = fill(rt, buffer, end - at);
-    Window {
-        at: 0,
-        end: filled,
-        more: filled == buffer.len(),
-        before: position(window),
-    }
-}
-
-// The first piece of the input.
-pub fn start(rt: &(impl Input + Clock), buffer: &mut [u8]) -> Window
-    ensures { (result.at ≤ result.end) × (result.end ≤ length buffer.old) }
-{
-    refill(
-        rt,
-        buffer,
-        Window {
+impl<'a, R: Input + Clock> Source<'a, R> {
+    // Reads the first piece of the input.
+    pub fn start(rt: &'a R) -> Source<'a, R> {
+        let mut source = Source {
+            rt,
+            buffer: [0; PIECE],
             at: 0,
             end: 0,
             more: true,
             before: 0,
-        },
-    )
-}
-
-// Sees to it that as many bytes as a message with its length byte can have are there, or all that the input still has.
-pub fn ready(rt: &(impl Input + Clock), buffer: &mut [u8], window: Window) -> Window
-    requires { (window.at ≤ window.end) × (window.end ≤ length buffer.old) }
-    ensures { (result.at ≤ result.end) × (result.end ≤ length buffer.old) }
-{
-    if window.more {
-        if window.end - window.at < 256 {
-            return refill(rt, buffer, window);
-        }
+        };
+        source.refill();
+        source
     }
-    window
-}
 
-// The lesser of two places.
-fn least(a: usize, b: usize) -> usize
-    ensures { (result ≤ a) × (result ≤ b) }
-{
-    if a < b { a } else { b }
-}
+    // The place in the input of the next byte. No input has 2 ^ 64 bytes.
+    pub fn position(&self) -> u64 {
+        self.before.wrapping_add(self.at as u64)
+    }
 
-// Where the piece ends that starts at a place and should have so many bytes: the input may end before.
-pub fn piece_end(from: usize, bytes: usize, end: usize) -> usize
-    requires { from ≤ end }
-    ensures { (from ≤ result) × (result ≤ end) × (result ≤ from + bytes) }
-{
-    from + least(bytes, end - from)
+    // Keeps what is not yet used, and fills the rest of the buffer.
+    fn refill(&mut self) {
+        self.before = self.position();
+        let left = self.end - self.at;
+        self.buffer.copy_within(self.at..self.end, 0);
+        self.at = 0;
+        self.end = fill(self.rt, &mut self.buffer, left);
+        self.more = self.end == PIECE;
+    }
+
+    // The next so many bytes of the buffer, or all that it has.
+    pub fn take(&mut self, bytes: usize) -> &[u8]
+        ensures next { result.now ≡ take (min bytes (self.old.end - self.old.at)) (drop self.old.at self.old.buffer) }
+        ensures bound { length result.now ≤ bytes }
+    {
+        let from = self.at;
+        let to = from + bytes.min(self.end - from);
+        self.at = to;
+        let read = &*self;
+        &read.buffer[from..to]
+    }
+
+    // The next message and where it starts in the input: so many bytes as its length byte says, or all that the input still has; none at the
+    // input's end.
+    pub fn message(&mut self) -> Option<(u64, &[u8])> {
+        if self.more && self.end - self.at < LONGEST_MESSAGE {
+            self.refill();
+        }
+        let length = *self.take(1).first()?;
+        let start = self.position();
+        Some((start, self.take(usize::from(length))))
+    }
 }

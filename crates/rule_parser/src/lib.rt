@@ -1,42 +1,40 @@
 // A rule typed as text (02, request 7): read by descent, and written as a policy.
 #![tactic(auto)]
 
-ghost use Rattle.std.specs.Prelude.{◌≡◌, ◌+◌, ◌-◌, ◌*◌, ◌≤◌, ◌<◌, true, false, length, set};
-ghost use Rattle.refusal.specs.declared.Refusal.TheVariants.{RuleLimit};
+ghost use Rattle.std.specs.Prelude.{◌≡◌, ◌+◌, ◌-◌, ◌≤◌, ◌<◌, false, set};
 ghost use Rattle.refusal.specs.Writes.{Output};
 ghost use Rattle.policy.specs.Text.{numbered, encode_of};
 ghost use Rattle.line_table.specs.Table.{line_at, lines_from};
 ghost use Rattle.rule_text.specs.Gathered.{Writes, not_lines, as_rule, gathered};
-ghost use Rattle.rule_text.specs.Steps.{LeafRead, TermRead, GroupRead, Negated, ClosedBy, Room, RuleRead};
+ghost use Rattle.policy.specs.LineKinds.{kind_number};
+ghost use Rattle.rule_text.specs.Steps.{LeafRead, TermRead, GroupRead, Negated, ClosedBy, RuleRead};
 ghost use Rattle.rule_text.specs.Compiled.{compile_of};
 
-use line_table::{LINES, NUMBERS, lines_from, set_line};
-use policy::{LineNumbers, PolicyNumbers};
+use line_table::{NUMBERS, lines_from, set_line};
+use policy::{LineKind, LineNumbers, MOST_LINES, PolicyNumbers};
 use policy_codec::{encode, heading_good};
-use refusal::{Refusal, Written};
-use rule_lexer::{byte_at, joint_at, matching, nots_at, number_at};
-use rule_text::{Cursor, Joint, Nots, Step, Word};
+use refusal::Refusal;
+use rule_lexer::{byte_at, joint_at, nots_at, number_at, word_at};
+use rule_text::{Cursor, Joint};
 
 // How deep brackets may nest.
 const NESTING: usize = 32;
 
-// The kinds of the lines of a leaf and of a not.
-const TRUE: u16 = 0;
-
-const PROPOSITION: u16 = 1;
-
-const NOT: u16 = 2;
-
-// The rest of "true", behind its first byte.
-const REST_OF_TRUE: [u8; 3] = *b"rue";
+// The text that is read, and how many propositions it may name.
+#[derive(Clone, Copy)]
+struct Source<'a> {
+    text: &'a [u8],
+    propositions: usize,
+    ghost few: { propositions ≤ 32 },
+}
 
 // The line of a term without an interval.
-fn line(kind: u16, first: usize) -> LineNumbers
+fn line(kind: LineKind, first: usize) -> LineNumbers
     requires { first < 64 }
-    ensures { result ≡ numbered kind first 0 0 0 false }
+    ensures { result ≡ numbered (kind_number kind) first 0 0 0 false }
 {
     LineNumbers {
-        kind: kind,
+        kind: kind as u16,
         first: first as u16,
         second: 0,
         lower: 0,
@@ -45,235 +43,164 @@ fn line(kind: u16, first: usize) -> LineNumbers
     }
 }
 
-// "true" or a mark, which becomes line `lines`.
-fn leaf(
-    text: &[u8],
-    fields: &mut [u16; NUMBERS],
-    propositions: usize,
-    at: usize,
-    lines: usize,
-) -> Step
-    requires { (length fields.old ≡ 384) × (propositions ≤ 32) × (lines < 64) }
-    ensures { LeafRead propositions text.now at lines fields.old fields.new result }
-{
-    let first = byte_at(text, at);
-    if first == b't' {
-        let n = matching(text, at + 1, &REST_OF_TRUE);
-        if n < 3 {
-            return Step::Refused(Refusal::RuleSyntax(at + 1 + n));
-        }
-        set_line(fields, lines, line(TRUE, 0));
-        return Step::Read(Cursor {
-            at: at + 4,
-            lines: lines + 1,
-        });
-    }
-    if first != b'm' {
-        return Step::Refused(Refusal::RuleSyntax(at));
-    }
-    let number = number_at(text, at + 1);
-    if number.end == at + 1 {
-        return Step::Refused(Refusal::RuleSyntax(at + 1));
-    }
-    if propositions <= number.value {
-        return Step::Refused(Refusal::RuleLimit(at + 1));
-    }
-    set_line(fields, lines, line(PROPOSITION, number.value));
-    Step::Read(Cursor {
-        at: number.end,
-        lines: lines + 1,
-    })
-}
-
-// A line for each "not" of a run, the innermost first.
-fn put_nots(fields: &mut [u16; NUMBERS], lines: usize, count: usize)
-    requires { (length fields.old ≡ 384) × (0 < lines) × (lines + count ≤ 64) }
-    ensures { Writes fields.old fields.new lines (not_lines (lines - 1) count) }
-{
-    let mut i = 0;
-    while i < count {
-        set_line(fields, lines + i, line(NOT, lines + i - 1));
-        i += 1;
-    }
-}
-
-// The term with a run of "not" before it.
-fn negated(fields: &mut [u16; NUMBERS], inner: Step, count: usize) -> Step
-    requires { (length fields.old ≡ 384) × Room inner count }
+// The term that ends there with a run of "not" before it: a line for each, the innermost first.
+fn negated(fields: &mut [u16; NUMBERS], inner: Cursor, count: usize) -> Cursor
+    requires { (0 < inner.lines) × (inner.lines + count ≤ 64) }
     ensures { Negated inner count fields.old fields.new result }
 {
-    match inner {
-        Step::Refused(r) => Step::Refused(r),
-        Step::Read(cursor) => {
-            let lines = cursor.lines;
-            put_nots(fields, lines, count);
-            Step::Read(Cursor {
-                at: cursor.at,
-                lines: lines + count,
-            })
-        }
+    let lines = inner.lines;
+    for i in 0..count {
+        set_line(fields, lines + i, line(LineKind::Not, lines + i - 1));
+    }
+    Cursor {
+        lines: lines + count,
+        ..inner
     }
 }
 
-// The end of a group: its ")", and its line behind those of its terms.
-fn close(text: &[u8], fields: &mut [u16; NUMBERS], right: Step, joint: Joint, left: usize) -> Step
-    requires { (length fields.old ≡ 384) × Room right 1 × (0 < left) × (left ≤ 64) }
-    ensures { ClosedBy text.now right joint left fields.old fields.new result }
-{
-    match right {
-        Step::Refused(r) => Step::Refused(r),
-        Step::Read(cursor) => {
-            let at = cursor.at;
-            let lines = cursor.lines;
-            if byte_at(text, at) != b')' {
-                return Step::Refused(Refusal::RuleSyntax(at));
+impl Source<'_> {
+    // "true" or a mark, which becomes the next line.
+    fn leaf(&self, fields: &mut [u16; NUMBERS], from: Cursor) -> Result<Cursor, Refusal>
+        requires { from.lines < 64 }
+        ensures { LeafRead self.now.propositions self.now.text.now from.at from.lines fields.old fields.new result }
+    {
+        match byte_at(self.text, from.at) {
+            b't' => {
+                let end = word_at(self.text, from.at + 1, b"rue")?;
+                set_line(fields, from.lines, line(LineKind::True, 0));
+                Ok(Cursor {
+                    at: end,
+                    lines: from.lines + 1,
+                })
             }
-            let line = LineNumbers {
-                kind: joint.kind,
-                first: (left - 1) as u16,
-                second: (lines - 1) as u16,
-                lower: joint.lower,
-                upper: joint.upper,
-                rule: false,
-            };
-            set_line(fields, lines, line);
-            Step::Read(Cursor {
-                at: at + 1,
-                lines: lines + 1,
-            })
-        }
-    }
-}
-
-// A term: there are so many lines, so many terms are around it, and brackets may nest so deep.
-#[cycle(group_term)]
-fn term(
-    text: &[u8],
-    fields: &mut [u16; NUMBERS],
-    propositions: usize,
-    at: usize,
-    lines: usize,
-    around: usize,
-    nesting: usize,
-) -> Step
-    requires { (length fields.old ≡ 384) × (propositions ≤ 32) × (lines + around ≤ 64) }
-    ensures { TermRead propositions text.now at lines around nesting fields.old fields.new result }
-{
-    let found = nots_at(text, at, lines + around);
-    match found {
-        Nots::Refused(r) => Step::Refused(r),
-        Nots::Read(run) => {
-            let first = run.at;
-            let count = run.count;
-            if byte_at(text, first) != b'(' {
-                let inner = leaf(text, fields, propositions, first, lines);
-                return negated(fields, inner, count);
-            }
-            if nesting == 0 {
-                return Step::Refused(Refusal::RuleLimit(first));
-            }
-            let inner = group(
-                text,
-                fields,
-                propositions,
-                first + 1,
-                lines,
-                around + count,
-                nesting - 1,
-            );
-            negated(fields, inner, count)
-        }
-    }
-}
-
-// A group, behind its "("; so many terms are around it.
-#[cycle(group_term)]
-fn group(
-    text: &[u8],
-    fields: &mut [u16; NUMBERS],
-    propositions: usize,
-    at: usize,
-    lines: usize,
-    around: usize,
-    nesting: usize,
-) -> Step
-    requires { (length fields.old ≡ 384) × (propositions ≤ 32) × (lines + around < 64) }
-    ensures { GroupRead propositions text.now at lines around nesting fields.old fields.new result }
-{
-    let left = term(text, fields, propositions, at, lines, around + 1, nesting);
-    match left {
-        Step::Refused(r) => Step::Refused(r),
-        Step::Read(l) => {
-            let end = l.lines;
-            let word = joint_at(text, l.at);
-            match word {
-                Word::Refused(r) => Step::Refused(r),
-                Word::Read(w) => {
-                    let right = term(text, fields, propositions, w.at, end, around + 1, nesting);
-                    close(text, fields, right, w, end)
+            b'm' => {
+                let first = from.at + 1;
+                let number = number_at(self.text, first);
+                if number.end == first {
+                    return Err(Refusal::RuleSyntax(first));
                 }
+                if self.propositions <= number.value {
+                    return Err(Refusal::RuleLimit(first));
+                }
+                set_line(
+                    fields,
+                    from.lines,
+                    line(LineKind::Proposition, number.value),
+                );
+                Ok(Cursor {
+                    at: number.end,
+                    lines: from.lines + 1,
+                })
             }
+            _ => Err(Refusal::RuleSyntax(from.at)),
         }
     }
-}
 
-// The whole text: a term, and nothing behind it.
-fn rule(text: &[u8], fields: &mut [u16; NUMBERS], propositions: usize) -> Step
-    requires { (length fields.old ≡ 384) × (propositions ≤ 32) }
-    ensures { RuleRead propositions text.now fields.new result }
-{
-    let read = term(text, fields, propositions, 0, 0, 0, NESTING);
-    match read {
-        Step::Refused(r) => Step::Refused(r),
-        Step::Read(cursor) => {
-            let at = cursor.at;
-            if at < text.len() {
-                return Step::Refused(Refusal::RuleSyntax(at));
-            }
-            Step::Read(cursor)
+    // The end of a group: its ")", and its line behind those of its terms.
+    fn close(
+        &self,
+        fields: &mut [u16; NUMBERS],
+        right: Cursor,
+        joint: Joint,
+        left: usize,
+    ) -> Result<Cursor, Refusal>
+        requires { (0 < right.lines) × (right.lines + 1 ≤ 64) × (0 < left) × (left ≤ 64) }
+        ensures { ClosedBy self.now.text.now right joint left fields.old fields.new result }
+    {
+        let lines = right.lines;
+        if byte_at(self.text, right.at) != b')' {
+            return Err(Refusal::RuleSyntax(right.at));
         }
+        let line = LineNumbers {
+            kind: joint.kind as u16,
+            first: (left - 1) as u16,
+            second: (lines - 1) as u16,
+            lower: joint.lower,
+            upper: joint.upper,
+            rule: false,
+        };
+        set_line(fields, lines, line);
+        Ok(Cursor {
+            at: right.at + 1,
+            lines: lines + 1,
+        })
+    }
+
+    // A term: so many terms are around it, and brackets may nest so deep.
+    #[cycle(group_term)]
+    fn term(
+        &self,
+        fields: &mut [u16; NUMBERS],
+        from: Cursor,
+        around: usize,
+        nesting: usize,
+    ) -> Result<Cursor, Refusal>
+        requires { from.lines + around ≤ 64 }
+        ensures { TermRead self.now.propositions self.now.text.now from.at from.lines around nesting fields.old fields.new result }
+    {
+        let nots = nots_at(self.text, from.at, from.lines + around)?;
+        if byte_at(self.text, nots.at) != b'(' {
+            let first = Cursor {
+                at: nots.at,
+                ..from
+            };
+            let leaf = self.leaf(fields, first)?;
+            return Ok(negated(fields, leaf, nots.count));
+        }
+        if nesting == 0 {
+            return Err(Refusal::RuleLimit(nots.at));
+        }
+        let inside = Cursor {
+            at: nots.at + 1,
+            ..from
+        };
+        let group = self.group(fields, inside, around + nots.count, nesting - 1)?;
+        Ok(negated(fields, group, nots.count))
+    }
+
+    // A group, behind its "("; so many terms are around it.
+    #[cycle(group_term)]
+    fn group(
+        &self,
+        fields: &mut [u16; NUMBERS],
+        from: Cursor,
+        around: usize,
+        nesting: usize,
+    ) -> Result<Cursor, Refusal>
+        requires { from.lines + around < 64 }
+        ensures { GroupRead self.now.propositions self.now.text.now from.at from.lines around nesting fields.old fields.new result }
+    {
+        let left = self.term(fields, from, around + 1, nesting)?;
+        let joint = joint_at(self.text, left.at)?;
+        let second = Cursor {
+            at: joint.at,
+            ..left
+        };
+        let right = self.term(fields, second, around + 1, nesting)?;
+        self.close(fields, right, joint, left.lines)
+    }
+
+    // The whole text: a term, and nothing behind it.
+    fn rule(&self, fields: &mut [u16; NUMBERS]) -> Result<Cursor, Refusal>
+        ensures { RuleRead self.now.propositions self.now.text.now fields.new result }
+    {
+        let start = Cursor { at: 0, lines: 0 };
+        let end = self.term(fields, start, 0, NESTING)?;
+        if end.at < self.text.len() {
+            return Err(Refusal::RuleSyntax(end.at));
+        }
+        Ok(end)
     }
 }
 
 // The lines, the last of which is the rule.
-fn rule_lines(fields: &[u16; NUMBERS], count: usize) -> [LineNumbers; LINES]
+fn rule_lines(fields: &[u16; NUMBERS], count: usize) -> [LineNumbers; MOST_LINES]
     requires { (0 < count) × (count ≤ 64) }
     ensures { result ≡ set (lines_from fields.now 64) (count - 1) (as_rule (line_at fields.now (count - 1))) }
 {
     let mut lines = lines_from(fields);
-    let last = lines[count - 1];
-    lines[count - 1] = LineNumbers {
-        kind: last.kind,
-        first: last.first,
-        second: last.second,
-        lower: last.lower,
-        upper: last.upper,
-        rule: true,
-    };
+    lines[count - 1].rule = true;
     lines
-}
-
-// Writes the policy of a rule that was read.
-fn write_rule(
-    fields: &[u16; NUMBERS],
-    propositions: usize,
-    components: usize,
-    minutes: usize,
-    count: usize,
-    out: &mut [u8],
-) -> Written
-    requires { (0 < count) × (count ≤ 64) }
-    ensures { ◌≡◌ {A = Output} (record { answer = result; out = out.new }) (encode_of (gathered propositions components minutes count fields.now) out.old) }
-{
-    let lines = rule_lines(fields, count);
-    let numbers = PolicyNumbers {
-        propositions: propositions,
-        components: components,
-        minutes: minutes,
-        count: count,
-        lines: lines,
-    };
-    encode(numbers, out)
 }
 
 // Reads the rule that a text is, and writes it as a policy with these numbers of propositions, components and minutes; or says why it is refused,
@@ -284,23 +211,23 @@ pub fn compile(
     components: usize,
     minutes: usize,
     out: &mut [u8],
-) -> Written
+) -> Result<usize, Refusal>
     ensures { ◌≡◌ {A = Output} (record { answer = result; out = out.new }) (compile_of propositions components minutes text.now out.old) }
 {
     if !heading_good(propositions, components, minutes, 1) {
-        return Written::Refused(Refusal::BadHeading(0));
+        return Err(Refusal::BadHeading(0));
     }
+    // fixed memory: six numbers a line (`line_table`); how many lines there are stands in the cursor
     let mut fields = [0u16; NUMBERS];
-    let read = rule(text, &mut fields, propositions);
-    match read {
-        Step::Refused(r) => Written::Refused(r),
-        Step::Read(cursor) => write_rule(
-            &fields,
-            propositions,
-            components,
-            minutes,
-            cursor.lines,
-            out,
-        ),
-    }
+    let source = Source { text, propositions };
+    let end = source.rule(&mut fields)?;
+    let count = end.lines;
+    let numbers = PolicyNumbers {
+        propositions,
+        components,
+        minutes,
+        count,
+        lines: rule_lines(&fields, count),
+    };
+    encode(numbers, out)
 }

@@ -1,16 +1,37 @@
 -- Laws of the definitions in specs/Laws. Assumes nothing.
-use Rattle.std.specs.Prelude.{ℕ, zero, suc, ◌+◌, ◌-◌, ◌*◌, ◌≤◌, ◌<◌, ◌≡◌, refl, true, false, cond, List, [], ◌∷◌, ◌++◌, leb, ltb, length, take, drop, get_or}
-use Rattle.std.proofs.Common.{arith, add-one, sym, ap, subst, ◌∙◌, append_assoc, length-append, length-drop, drop-cons, take-suc, get_or-drop, ext_get_or, lt-ltb, le-ltb, le-leb}
+use Rattle.std.specs.Prelude.{ℕ, zero, suc, ◌+◌, ◌-◌, ◌*◌, ◌≤◌, ◌<◌, ◌≡◌, refl, Bool, true, false, cond, eqb, List, [], ◌∷◌, ◌++◌, leb, ltb, length, take, drop, get_or}
+use Rattle.std.proofs.Common.{arith, add-one, sym, ap, ap₂, subst, ◌∙◌, append_assoc, length-append, length-drop, drop-cons, lt-ltb, le-ltb, le-leb, ne_eqb, eq-eqb}
 use Rattle.std.proofs.Math.Decide.{dec_lt}
-use Rattle.std.proofs.Math.ListN.{get_or-eq_default, get_or-append}
+use Rattle.std.proofs.Math.Seq.{take-append_seam}
+use Rattle.std.proofs.Math.ListN.{get_or-eq_default}
 use Rattle.std.proofs.lemmas.Bool.{lt-leb}
 use Rattle.rule_grammar.specs.Numeral.{digits, digit, Calm, Digits, value}
 use Rattle.rule_grammar.proofs.Numeral.{value_snoc, digits_digits, digits_value, head}
 use Rattle.rule_grammar.proofs.Spelling.{spelt, led, zero_is, digit_range}
-use Rattle.rule_grammar.specs.Numbers.{Matching, Spelled}
+use Rattle.rule_grammar.specs.Numbers.{Spelled}
 use Rattle.rule_grammar.proofs.Numbers.{spelled_end}
+use denote.Enum.Declared.{tag_of}
+use Rattle.policy.specs.contracts.LineKind.{the_type}
+use Rattle.policy.specs.declared.LineKind.{LineKind}
+use Rattle.policy.specs.declared.LineKind.TheVariants as K
+use Rattle.policy.specs.LineKinds.{kind_number}
 use Rattle.rule_text.specs.Steps.{Near, NumberAt, nothing, spelt_as}
-use Rattle.rule_text.specs.Laws.{Matched, Scanned}
+use Rattle.rule_text.specs.Laws.{Scanned}
+
+-- an enum's number is the kind's
+pub kind_is : (k : LineKind) → tag_of the_type k ≡ kind_number k
+kind_is K.True = refl
+kind_is K.Proposition = refl
+kind_is K.Not = refl
+kind_is K.Or = refl
+kind_is K.Since = refl
+kind_is K.Until = refl
+kind_is K.And = refl
+kind_is K.Implies = refl
+kind_is K.Once = refl
+kind_is K.Historically = refl
+kind_is K.Eventually = refl
+kind_is K.Always = refl
 
 -- a byte that isn't 0 is inside the text
 pub inside_text : (text : List ℕ) (i c : ℕ) → get_or text i 0 ≡ c → 0 < c → i < length text
@@ -22,34 +43,6 @@ inside_text text i c e h = go (dec_lt i (length text))
 
 pub digit_inside : (text : List ℕ) (i : ℕ) → digit (get_or text i 0) ≡ true → i < length text
 digit_inside text i e = inside_text text i (get_or text i 0) refl (let r = digit_range (get_or text i 0) e in omega (arith, r.0))
-
-pub past_end : (text : List ℕ) (i : ℕ) → length text ≤ i → 0 ≡ get_or text i 0
-past_end text i h = sym (get_or-eq_default text 0 {n = i} h)
-
-module _ (text : List ℕ) (at : ℕ) (word : List ℕ) where
-  pub match_start : at ≤ length text → Matched text at word 0
-  match_start h = record { few = omega arith; inside = omega arith; alike = let e : at ≡ at + 0 = omega arith in ap (λ (k : ℕ). drop k text) e }
-
-  pub match_next : (n : ℕ) → Matched text at word n → n < length word → at + n < length text → get_or text (at + n) 0 ≡ get_or word n 0 → Matched text at word (n + 1)
-  match_next n m h l e =
-      let z : at + (n + 1) ≡ suc (at + n) = omega arith in
-      record {
-        few = omega arith;
-        inside = omega arith;
-        alike = m.alike ∙ ap (λ (w : List ℕ). take n word ++ w) (drop-cons text (at + n) 0 l ∙ ap (λ (c : ℕ). c ∷ drop (suc (at + n)) text) e)
-            ∙ sym (append_assoc (take n word) (get_or word n 0 ∷ []) (drop (suc (at + n)) text))
-            ∙ ap (λ (w : List ℕ). w ++ drop (suc (at + n)) text) (sym (take-suc word n 0 h) ∙ ap (λ (k : ℕ). take k word) (sym (add-one n)))
-            ∙ ap (λ (k : ℕ). take (n + 1) word ++ drop k text) (sym z);
-      }
-
-  pub match_stop : (n : ℕ) → Matched text at word n → (n < length word → 0 < get_or word n 0 → get_or text (at + n) 0 ≡ get_or word n 0 → ⊥) → Matching text at word n
-  match_stop n m d = record { short = m.few; inside = m.inside; alike = m.alike; differs = d }
-
-  pub match_ended : (n : ℕ) → Matched text at word n → length text ≤ at + n → Matching text at word n
-  match_ended n m h = match_stop n m (λ l q e. let z = get_or-eq_default text 0 {n = at + n} h in omega arith)
-
-  pub match_whole : (n : ℕ) → Matched text at word n → length word ≤ n → Matching text at word n
-  match_whole n m h = match_stop n m (λ l. absurd (omega arith))
 
 module _ (text : List ℕ) (at : ℕ) where
   pub scan_start : Scanned text at at 0
@@ -157,18 +150,39 @@ value_more (c ∷ u) (d ∷ w) v x e h g l =
     let r = digit_range c h.0 in
     value_more u w (10 * v + (c - 48)) (10 * x + (d - 48)) (omega arith) h.1 g.1 (omega arith)
 
-value_first : (u w : List ℕ) (i v : ℕ) → length u ≡ length w → Digits u → Digits w → i < length u → ((j : ℕ) → j < i → get_or u j 0 ≡ get_or w j 0) → get_or u i 0 < get_or w i 0
-    → value v u < value v w
-value_first [] w i v e h g k a l = absurd (omega arith)
-value_first (c ∷ u) [] i v e h g k a l = absurd (omega arith)
-value_first (c ∷ u) (d ∷ w) zero v e h g k a l =
-    let r = digit_range c h.0 in
-    let s = digit_range d g.0 in
-    value_more u w (10 * v + (c - 48)) (10 * v + (d - 48)) (omega arith) h.1 g.1 (omega arith)
-value_first (c ∷ u) (d ∷ w) (suc i) v e h g k a l =
-    let q : c ≡ d = a 0 (omega arith) in
-    subst (λ (z : ℕ). value (10 * v + (c - 48)) u < value (10 * v + (z - 48)) w) q
-    (value_first u w i (10 * v + (c - 48)) (omega arith) h.1 g.1 (omega arith) (λ j f. a (suc j) (omega arith)) l)
+-- in the order of a dictionary
+abbrev pub before : List ℕ → List ℕ → Bool
+before [] [] = false
+before [] (d ∷ w) = true
+before (c ∷ u) [] = false
+before (c ∷ u) (d ∷ w) = cond (ltb c d) true (cond (eqb c d) (before u w) false)
+
+value_order : (u w : List ℕ) (v : ℕ) → length u ≡ length w → Digits u → Digits w → before u w ≡ ltb (value v u) (value v w)
+value_order [] [] v e h g = sym (le-ltb v v (omega arith))
+value_order [] (d ∷ w) v e h g = absurd (omega arith)
+value_order (c ∷ u) [] v e h g = absurd (omega arith)
+value_order (c ∷ u) (d ∷ w) v e h g = go (value_order u w x (omega arith) h.1 g.1) (dec_lt c d) (dec_lt d c)
+  where
+    x : ℕ
+    x = 10 * v + (c - 48)
+
+    y : ℕ
+    y = 10 * v + (d - 48)
+
+    go : before u w ≡ ltb (value x u) (value x w) → Dec (c < d) → Dec (d < c) → cond (ltb c d) true (cond (eqb c d) (before u w) false) ≡ ltb (value x u) (value y w)
+    go f (yes l) k =
+        let r = digit_range c h.0 in
+        let s = digit_range d g.0 in
+        rw (lt-ltb c d l) (sym (lt-ltb (value x u) (value y w) (value_more u w x y (omega arith) h.1 g.1 (omega arith))))
+    go f (no l) (yes k) =
+        let r = digit_range c h.0 in
+        let s = digit_range d g.0 in
+        let z = value_more w u y x (omega arith) g.1 h.1 (omega arith) in
+        rw (le-ltb c d (omega arith), ne_eqb c d (λ z. omega arith)) (sym (le-ltb (value x u) (value y w) (omega arith)))
+    go f (no l) (no k) =
+        let q : c ≡ d = omega arith in
+        rw (le-ltb c d (omega arith), eq-eqb c d q)
+        (f ∙ ap (λ (z : ℕ). ltb (value x u) (value (10 * v + (z - 48)) w)) q)
 
 digits_drop : (n : ℕ) (u : List ℕ) → Digits u → Digits (drop n u)
 digits_drop zero u h = h
@@ -217,67 +231,27 @@ longer x y h =
                 let d : Digits (c ∷ u) = subst Digits e (digits_digits x) in
                 let r = digit_range c d.0 in absurd (not_zero (omega arith))
 
-module _ (text : List ℕ) (a c b d : ℕ) (x y : ℕ) (s : Spelled text a c x) (t : Spelled text b d y) where
-  as_long : (a + length (digits x) ≡ c) × (b + length (digits y) ≡ d)
-  as_long = ((spelled_end text [] a c x s).0, (spelled_end text [] b d y t).0)
+-- the bytes of a number are its digits
+pub spelled_bytes : (text : List ℕ) (i e n : ℕ) → Spelled text i e n → take (e - i) (drop i text) ≡ digits n
+spelled_bytes text i e n s =
+    let k : e - i ≡ length (digits n) = omega (arith, (spelled_end text [] i e n s).0) in
+    ap₂ take k s.spells ∙ take-append_seam (digits n) (drop e text)
 
-  pub by_length : (c - a ≡ d - b → ⊥) → ltb (d - b) (c - a) ≡ ltb y x
-  by_length h = go (dec_lt (d - b) (c - a))
+module _ (x y : ℕ) where
+  -- of two numerals of different lengths the longer one is the larger number
+  pub by_length : (length (digits x) ≡ length (digits y) → ⊥) → ltb (length (digits y)) (length (digits x)) ≡ ltb y x
+  by_length h = go (dec_lt (length (digits y)) (length (digits x)))
     where
-      go : Dec (d - b < c - a) → ltb (d - b) (c - a) ≡ ltb y x
-      go (yes l) = lt-ltb (d - b) (c - a) l ∙ sym (lt-ltb y x (longer x y (omega (arith, as_long.0, as_long.1))))
+      go : Dec (length (digits y) < length (digits x)) → ltb (length (digits y)) (length (digits x)) ≡ ltb y x
+      go (yes l) = lt-ltb (length (digits y)) (length (digits x)) l ∙ sym (lt-ltb y x (longer x y l))
       go (no l) =
-          let m : c - a < d - b = strict (dec_lt (c - a) (d - b)) in
-          let z = longer y x (omega (arith, as_long.0, as_long.1)) in
-          le-ltb (d - b) (c - a) (omega arith) ∙ sym (le-ltb y x (omega arith))
+          let z = longer y x (strict (dec_lt (length (digits x)) (length (digits y)))) in
+          le-ltb (length (digits y)) (length (digits x)) (omega arith) ∙ sym (le-ltb y x (omega arith))
         where
-          strict : Dec (c - a < d - b) → c - a < d - b
+          strict : Dec (length (digits x) < length (digits y)) → length (digits x) < length (digits y)
           strict (yes k) = k
           strict (no k) = absurd (h (omega arith))
 
-  cell_x : (j : ℕ) → j < c - a → get_or (digits x) j 0 ≡ get_or text (a + j) 0
-  cell_x j l = sym (get_or-append (digits x) (drop c text) 0 j (omega (arith, as_long.0))) ∙ ap (λ (u : List ℕ). get_or u j 0) (sym s.spells) ∙ get_or-drop a text j 0
-
-  cell_y : (j : ℕ) → j < d - b → get_or (digits y) j 0 ≡ get_or text (b + j) 0
-  cell_y j l = sym (get_or-append (digits y) (drop d text) 0 j (omega (arith, as_long.1))) ∙ ap (λ (u : List ℕ). get_or u j 0) (sym t.spells) ∙ get_or-drop b text j 0
-
-  module _ (e : c - a ≡ d - b) (i : ℕ) (same : (j : ℕ) → j < i → get_or text (a + j) 0 ≡ get_or text (b + j) 0) where
-    alike_cells : i ≤ c - a → (j : ℕ) → j < i → get_or (digits x) j 0 ≡ get_or (digits y) j 0
-    alike_cells l j h = cell_x j (omega arith) ∙ same j h ∙ sym (cell_y j (omega arith))
-
-    pub by_digit : i < c - a → (get_or text (a + i) 0 ≡ get_or text (b + i) 0 → ⊥) → ltb (get_or text (b + i) 0) (get_or text (a + i) 0) ≡ ltb y x
-    by_digit l h = go (dec_lt (get_or text (b + i) 0) (get_or text (a + i) 0))
-      where
-        below : (u w : ℕ) → value 0 (digits u) < value 0 (digits w) → u < w
-        below u w k = omega (arith, k, digits_value u, digits_value w)
-
-        go : Dec (get_or text (b + i) 0 < get_or text (a + i) 0) → ltb (get_or text (b + i) 0) (get_or text (a + i) 0) ≡ ltb y x
-        go (yes k) =
-            lt-ltb (get_or text (b + i) 0) (get_or text (a + i) 0) k
-            ∙ sym (lt-ltb y x (below y x (value_first (digits y) (digits x) i 0 (omega (arith, as_long.0, as_long.1)) (digits_digits y) (digits_digits x) (omega (arith, as_long.1))
-            (λ j f. sym (alike_cells (omega arith) j f)) (omega (arith, k, cell_x i l, cell_y i (omega arith))))))
-        go (no k) =
-            let m : get_or text (a + i) 0 < get_or text (b + i) 0 = strict (dec_lt (get_or text (a + i) 0) (get_or text (b + i) 0)) in
-            let z = below x y (value_first (digits x) (digits y) i 0 (omega (arith, as_long.0, as_long.1)) (digits_digits x) (digits_digits y) (omega (arith, as_long.0))
-            (alike_cells (omega arith)) (omega (arith, m, cell_x i l, cell_y i (omega arith)))) in
-            le-ltb (get_or text (b + i) 0) (get_or text (a + i) 0) (omega arith) ∙ sym (le-ltb y x (omega arith))
-          where
-            strict : Dec (get_or text (a + i) 0 < get_or text (b + i) 0) → get_or text (a + i) 0 < get_or text (b + i) 0
-            strict (yes f) = f
-            strict (no f) = absurd (h (omega arith))
-
-    pub no_difference : c - a ≤ i → false ≡ ltb y x
-    no_difference l =
-        let q = ext_get_or 0 (digits x) (digits y) (omega (arith, as_long.0, as_long.1))
-        (λ j f. cell_x j (omega (arith, as_long.0)) ∙ same j (omega (arith, as_long.0)) ∙ sym (cell_y j (omega (arith, as_long.0)))) in
-        let z : x ≡ y = sym (digits_value x) ∙ ap (value 0) q ∙ digits_value y in
-        sym (le-ltb y x (omega arith))
-
--- one cell more is alike
-pub cells_next : (text : List ℕ) (a b i : ℕ) → ((j : ℕ) → j < i → get_or text (a + j) 0 ≡ get_or text (b + j) 0) → get_or text (a + i) 0 ≡ get_or text (b + i) 0
-    → (j : ℕ) → j < i + 1 → get_or text (a + j) 0 ≡ get_or text (b + j) 0
-cells_next text a b i same e j h = go (dec_lt j i)
-  where
-    go : Dec (j < i) → get_or text (a + j) 0 ≡ get_or text (b + j) 0
-    go (yes l) = same j l
-    go (no l) = let q : i ≡ j = omega arith in subst (λ (k : ℕ). get_or text (a + k) 0 ≡ get_or text (b + k) 0) q e
+  -- of two as long the later one in the order of a dictionary
+  pub by_digits : length (digits x) ≡ length (digits y) → before (digits y) (digits x) ≡ ltb y x
+  by_digits e = value_order (digits y) (digits x) 0 (sym e) (digits_digits y) (digits_digits x) ∙ ap₂ ltb (digits_value y) (digits_value x)

@@ -2,7 +2,7 @@
 use Prim.Native.Nat.{ℕ, zero, suc, ◌+◌, ◌≤◌, ◌<◌}
 use Rattle.std.proofs.Common.{arith, subst, ◌∙◌, inl, inr}
 use Rattle.std.proofs.Math.Decide.{dec_lt}
-use Rattle.std.specs.Prelude.{◌≡◌, Bool, ◌⊎◌, ◌↔◌, eqb, length, get_or, drop}
+use Rattle.std.specs.Prelude.{◌≡◌, Bool, ◌⊎◌, ◌↔◌, eqb, length, get_or, drop, Err, Ok}
 use Rattle.std.proofs.Math.Path.{refl, sym, ap, ap₂}
 use Rattle.std.proofs.Math.Bool.{true, false, cond, true≢false}
 use mathlib.Core.List.{List, [], ◌∷◌, ◌++◌}
@@ -10,14 +10,12 @@ use Rattle.std.proofs.Math.ListN.{get_or-map}
 use borrow.Author.Tests.{eq-eqb, ne_eqb}
 use Rattle.refusal.specs.declared.Refusal.{Refusal}
 use Rattle.refusal.specs.declared.Refusal.TheVariants.{BadHeading, RuleSyntax, RuleLimit}
-use Rattle.refusal.specs.declared.Answer.{Answer}
-use Rattle.refusal.specs.declared.Answer.TheVariants as C
-use Rattle.refusal.specs.declared.Written.{Written}
-use Rattle.refusal.specs.declared.Written.TheVariants as W
+use Rattle.refusal.specs.Checks.{Checked, reply}
+use Rattle.refusal.specs.Writes.{Written}
 use Rattle.refusal.specs.Numbers.{refusal_number, refusal_place, refusal_of}
 use Rattle.refusal.specs.Checks.{RefusedWith}
 use Rattle.refusal.proofs.Laws.{same_refusal}
-use Rattle.refusal.specs.Writes.{Output, reply}
+use Rattle.refusal.specs.Writes.{Output}
 use Rattle.mtl.specs.declared.Formula.{Formula}
 use Rattle.mtl.specs.declared.Formula.TheVariants as F
 use Rattle.mtl.specs.Syntax.{Operands, Proposes, Bounded}
@@ -185,7 +183,7 @@ module _ (m c t : ℕ) (text : List ℕ) (x : Term) (z : SizesIn m c t) (h : Tak
 
 -- ---- the causes
 
-told_as : (a : Answer) (n at : ℕ) (r : Refusal) → a ≡ C.Refused r → refusal_number r ≡ n → refusal_place r ≡ at → RefusedWith a n at
+told_as : (a : Checked) (n at : ℕ) (r : Refusal) → a ≡ Err r → refusal_number r ≡ n → refusal_place r ≡ at → RefusedWith a n at
 told_as a n at r e f g = record { refusal = r; is = e; number = f; place = g }
 
 module _ (m c t : ℕ) (text out : List ℕ) where
@@ -198,26 +196,26 @@ module _ (m c t : ℕ) (text out : List ℕ) where
 
   -- a claim about the outcome holds if it holds of each way to it
   by_cases : (Q : Output → Type 0)
-      → ((SizesIn m c t → ⊥) → Q (record { answer = W.Refused (BadHeading 0); out = out }))
-      → (SizesIn m c t → (n i : ℕ) → P.Answered m text (P.Refused n i) → Q (record { answer = W.Refused (refusal_of n i); out = out }))
+      → ((SizesIn m c t → ⊥) → Q (record { answer = Err (BadHeading 0); out = out }))
+      → (SizesIn m c t → (n i : ℕ) → P.Answered m text (P.Refused n i) → Q (record { answer = Err (refusal_of n i); out = out }))
       → (SizesIn m c t → (x : Term) → TakenAs m text x → Q (encode_of (rule_policy m c t x) out))
       → Q (compile_of m c t text out)
   unfolding compile_of
   by_cases Q bad refused taken = go (heading_good m c t 1) refl (answer_of m text) (answered m text)
     where
-      go : (b : Bool) → heading_good m c t 1 ≡ b → (a : P.Answer) → P.Answered m text a → Q (cond b (typed m c t out a) (record { answer = W.Refused (BadHeading 0); out = out }))
+      go : (b : Bool) → heading_good m c t 1 ≡ b → (a : P.Answer) → P.Answered m text a → Q (cond b (typed m c t out a) (record { answer = Err (BadHeading 0); out = out }))
       go false e a d = bad (λ z. true≢false (sym (sizes_law.1 z) ∙ e))
       go true e (P.Refused n i) d = refused (sizes_law.0 e) n i d
       go true e (P.Taken x) d = taken (sizes_law.0 e) x d
 
   -- a refusal tells its own number and place
-  told : (r : Refusal) (n at : ℕ) → RefusedWith (C.Refused r) n at → (refusal_number r ≡ n) × (refusal_place r ≡ at)
+  told : (r : Refusal) (n at : ℕ) → RefusedWith (Err r) n at → (refusal_number r ≡ n) × (refusal_place r ≡ at)
   told r n at w = let e = same_refusal r w.refusal w.is in (ap refusal_number e ∙ w.number, ap refusal_place e ∙ w.place)
 
-  no_length : (r : Refusal) (n : ℕ) → W.Refused r ≡ W.Length n → ⊥
+  no_length : (r : Refusal) (n : ℕ) → Err r ≡ Ok n → ⊥
   no_length r n e = let q : ◌≡◌ {A = ℕ} 0 1 = cc in omega arith
 
-  if_bad : (SizesIn m c t → ⊥) → CompileCauses m c t text out (record { answer = W.Refused (BadHeading 0); out = out })
+  if_bad : (SizesIn m c t → ⊥) → CompileCauses m c t text out (record { answer = Err (BadHeading 0); out = out })
   if_bad b = record {
     two_at = λ at. (λ w. (sym (told (BadHeading 0) 2 at w).1, b), λ q. told_as _ 2 at (BadHeading 0) refl refl (sym q.0));
     thirteen = λ at. (λ w. absurd (omega (arith, (told (BadHeading 0) 13 at w).0)), λ q. absurd (b q.0));
@@ -239,7 +237,7 @@ module _ (m c t : ℕ) (text out : List ℕ) where
   same_term : (x y : Term) → TakenAs m text x → TakenAs m text y → x ≡ y
   same_term x y a b = let e = one_answer m text (P.Taken x) (P.Taken y) a b in cc
 
-  if_unreadable : SizesIn m c t → (i : ℕ) → P.Answered m text (P.Refused 13 i) → CompileCauses m c t text out (record { answer = W.Refused (RuleSyntax i); out = out })
+  if_unreadable : SizesIn m c t → (i : ℕ) → P.Answered m text (P.Refused 13 i) → CompileCauses m c t text out (record { answer = Err (RuleSyntax i); out = out })
   if_unreadable z i a = record {
     two_at = λ at. (λ w. absurd (omega (arith, (told (RuleSyntax i) 2 at w).0)), λ q. absurd (q.1 z));
     thirteen = λ at. (λ w. (z, subst (λ (j : ℕ). P.Answered m text (P.Refused 13 j)) (told (RuleSyntax i) 13 at w).1 a), λ q. told_as _ 13 at (RuleSyntax i) refl refl (same_place 13 i 13 at a q.1).1);
@@ -251,7 +249,7 @@ module _ (m c t : ℕ) (text out : List ℕ) where
     unwritten = λ r e. refl;
   }
 
-  if_too_much : SizesIn m c t → (i : ℕ) → P.Answered m text (P.Refused 14 i) → CompileCauses m c t text out (record { answer = W.Refused (RuleLimit i); out = out })
+  if_too_much : SizesIn m c t → (i : ℕ) → P.Answered m text (P.Refused 14 i) → CompileCauses m c t text out (record { answer = Err (RuleLimit i); out = out })
   if_too_much z i a = record {
     two_at = λ at. (λ w. absurd (omega (arith, (told (RuleLimit i) 2 at w).0)), λ q. absurd (q.1 z));
     thirteen = λ at. (λ w. absurd (omega (arith, (told (RuleLimit i) 13 at w).0)), λ q. absurd (omega (arith, (same_place 14 i 13 at a q.1).0)));
@@ -306,14 +304,14 @@ module _ (m c t : ℕ) (text out : List ℕ) where
   pub compile_causes : CompileCauses m c t text out (compile_of m c t text out)
   compile_causes = by_cases (CompileCauses m c t text out) if_bad refused if_taken
     where
-      refused : SizesIn m c t → (n i : ℕ) → P.Answered m text (P.Refused n i) → CompileCauses m c t text out (record { answer = W.Refused (refusal_of n i); out = out })
+      refused : SizesIn m c t → (n i : ℕ) → P.Answered m text (P.Refused n i) → CompileCauses m c t text out (record { answer = Err (refusal_of n i); out = out })
       refused z n i a = go (number_is n i a.0)
         where
-          go : (n ≡ 13) ⊎ (n ≡ 14) → CompileCauses m c t text out (record { answer = W.Refused (refusal_of n i); out = out })
+          go : (n ≡ 13) ⊎ (n ≡ 14) → CompileCauses m c t text out (record { answer = Err (refusal_of n i); out = out })
           go (inl e) =
-              subst (λ (k : ℕ). CompileCauses m c t text out (record { answer = W.Refused (refusal_of k i); out = out })) (sym e) (if_unreadable z i (subst (λ (k : ℕ). P.Answered m text (P.Refused k i)) e a))
+              subst (λ (k : ℕ). CompileCauses m c t text out (record { answer = Err (refusal_of k i); out = out })) (sym e) (if_unreadable z i (subst (λ (k : ℕ). P.Answered m text (P.Refused k i)) e a))
           go (inr e) =
-              subst (λ (k : ℕ). CompileCauses m c t text out (record { answer = W.Refused (refusal_of k i); out = out })) (sym e) (if_too_much z i (subst (λ (k : ℕ). P.Answered m text (P.Refused k i)) e a))
+              subst (λ (k : ℕ). CompileCauses m c t text out (record { answer = Err (refusal_of k i); out = out })) (sym e) (if_too_much z i (subst (λ (k : ℕ). P.Answered m text (P.Refused k i)) e a))
 
 -- ---- the theorem
 
@@ -326,7 +324,7 @@ rules_as_text = record {
 }
 
 -- what is told as a length fits the lent buffer
-pub fits : (m c t : ℕ) (text out out' : List ℕ) (a : Written) (n : ℕ) → ◌≡◌ {A = Output} (record { answer = a; out = out' }) (compile_of m c t text out) → a ≡ W.Length n → n ≤ length out
+pub fits : (m c t : ℕ) (text out out' : List ℕ) (a : Written) (n : ℕ) → ◌≡◌ {A = Output} (record { answer = a; out = out' }) (compile_of m c t text out) → a ≡ Ok n → n ≤ length out
 fits m c t text out out' a n e f =
     let q = ((compile_causes m c t text out).done n).0 (sym (ap (λ (o : Output). o.answer) e) ∙ f) in
     omega (arith, q.3, q.4)

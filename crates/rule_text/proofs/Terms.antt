@@ -1,12 +1,12 @@
 -- Laws of the reader's functions: what each return of each of them says.
-use Rattle.std.specs.Prelude.{ℕ, suc, ◌+◌, ◌≤◌, ◌<◌, ◌≡◌, Bool, true, cond, eqb, leb, ltb, length, get_or}
+use Rattle.std.specs.Prelude.{ℕ, suc, ◌+◌, ◌-◌, ◌≤◌, ◌<◌, ◌≡◌, Bool, true, cond, eqb, leb, ltb, length, get_or, Err, Ok, Result}
 use Rattle.std.proofs.Common.{arith, add-one, ◌∙◌, take_all, ltb-true, ltb-false, ne_eqb, le-leb}
 use Rattle.std.proofs.Math.Decide.{dec_lt}
 use Rattle.std.proofs.Math.Path.{refl, sym, ap, subst}
 use Rattle.std.proofs.Math.Bool.{false}
 use Rattle.std.proofs.lemmas.Bool.{false≢true, lt-leb}
 use mathlib.Core.List.{List, [], ◌∷◌, ◌++◌, append_assoc}
-use Rattle.std.proofs.Math.ListN.{drop}
+use Rattle.std.proofs.Math.ListN.{take, drop}
 use Rattle.std.proofs.Math.Seq.{drop-cons}
 use Rattle.refusal.specs.declared.Refusal.{Refusal}
 use Rattle.refusal.specs.declared.Refusal.TheVariants.{RuleSyntax, RuleLimit}
@@ -21,14 +21,12 @@ use Rattle.rule_grammar.proofs.Progress.{plain_not, advance, refuse_syntax}
 use Rattle.rule_grammar.specs.Numbers.{Matching, PlainWord, Spelled}
 use Rattle.rule_grammar.proofs.Numbers.{plain_byte, no_plain_byte, word_read, word_broken}
 use Rattle.rule_grammar.proofs.Intervals.{no_lower, no_comma, no_comma_far, no_upper, no_upper_far, open_far_lower, open_far_upper, open_end, far_lower_closed, far_upper_closed, closed, above_closed}
-use Rattle.rule_text.specs.declared.Interval.{Interval}
-use Rattle.rule_text.specs.declared.Interval.TheVariants as I
 use Rattle.rule_text.specs.declared.Bounds.{Bounds}
+use Rattle.policy.specs.declared.LineKind.{LineKind}
 use Rattle.rule_text.specs.declared.Joint.{Joint}
-use Rattle.rule_text.specs.declared.Word.{Word}
-use Rattle.rule_text.specs.declared.Word.TheVariants as W
-use Rattle.rule_text.specs.Steps.{Refuses, Near, NumberAt, nothing, spelt_as, Comma, IntervalGood, Narrow, IntervalOut, IntervalRead, WordRead, TimedRead, JointRead}
-use Rattle.rule_text.proofs.Laws.{inside_text}
+use Rattle.policy.specs.LineKinds.{kind_number}
+use Rattle.rule_text.specs.Steps.{Refuses, Near, NumberAt, nothing, spelt_as, Comma, WordAt, IntervalGood, Narrow, IntervalOut, IntervalRead, WordRead, TimedRead, JointRead}
+use Rattle.rule_text.proofs.Laws.{inside_text, spelled_bytes}
 
 -- none of four bytes
 pub four : (x y z w : Bool) (p q r s : Next) → x ≡ false → y ≡ false → z ≡ false → w ≡ false
@@ -56,12 +54,12 @@ one_on : (m : ℕ) (text : List ℕ) (n i : ℕ) → P.Answered m text (P.Refuse
 one_on m text n i h = subst (λ (k : ℕ). P.Answered m text (P.Refused n k)) (sym (add-one i)) h
 
 module _ (text : List ℕ) (p : ℕ) where
-  pub no_bracket : (get_or text p 0 ≡ 91 → ⊥) → IntervalRead text p (I.Refused (RuleSyntax p))
+  pub no_bracket : (get_or text p 0 ≡ 91 → ⊥) → IntervalRead text p (Err (RuleSyntax p))
   unfolding IntervalRead
   no_bracket h = (tt, λ m k n s. no_plain_byte m text 91 (bounds k) p n s h)
 
   module _ (h : get_or text p 0 ≡ 91) where
-    pub no_number : (e v : ℕ) → NumberAt text (p + 1) e v → e ≡ p + 1 → IntervalRead text p (I.Refused (RuleSyntax (p + 1)))
+    pub no_number : (e v : ℕ) → NumberAt text (p + 1) e v → e ≡ p + 1 → IntervalRead text p (Err (RuleSyntax (p + 1)))
     unfolding IntervalRead
     no_number e v (nothing w d) q = (tt, λ m k n s. one_on m text 13 p (no_lower m text k p n s (inside_text text p 91 h (omega arith)) h (ap (λ (i : ℕ). digit (get_or text i 0)) (sym (add-one p)) ∙ d)))
     no_number e v (spelt_as a b c l s r) q = absurd (omega arith)
@@ -71,7 +69,7 @@ module _ (text : List ℕ) (p : ℕ) where
     number_read e v (spelt_as a b c l s r) q = (c, subst (λ (i : ℕ). Spelled text i a c) (add-one p) s, omega arith, r)
 
     pub without_comma : (e v : ℕ) (x : Refusal) → NumberAt text (p + 1) e v → (e ≡ p + 1 → ⊥) → (get_or text e 0 ≡ 44 → ⊥) → x ≡ cond (leb v 1023) (RuleSyntax e) (RuleLimit (p + 1))
-        → IntervalRead text p (I.Refused x)
+        → IntervalRead text p (Err x)
     unfolding IntervalRead
     without_comma e v x a q c y =
         let r = number_read e v a q in (
@@ -89,7 +87,7 @@ module _ (text : List ℕ) (p d v : ℕ) (a : Comma text p d v) where
   pub comma_inside : (p < length text) × (d < length text)
   comma_inside = (inside_text text p 91 a.opens (omega arith), inside_text text d 44 a.comma (omega arith))
 
-  pub no_second : (e w : ℕ) (x : Refusal) → NumberAt text (d + 1) e w → e ≡ d + 1 → x ≡ cond (leb v 1023) (RuleSyntax (d + 1)) (RuleLimit (p + 1)) → IntervalRead text p (I.Refused x)
+  pub no_second : (e w : ℕ) (x : Refusal) → NumberAt text (d + 1) e w → e ≡ d + 1 → x ≡ cond (leb v 1023) (RuleSyntax (d + 1)) (RuleLimit (p + 1)) → IntervalRead text p (Err x)
   unfolding IntervalRead
   no_second e w x (nothing u z) q y = (
     tt,
@@ -110,15 +108,8 @@ module _ (text : List ℕ) (p d v : ℕ) (a : Comma text p d v) where
         go (nothing u z) q = absurd (q refl)
         go (spelt_as b c u l s r) q = (u, subst (λ (i : ℕ). Spelled text i b u) (add-one d) s, r)
 
-    pub second_inside : (d + 1 ≤ e) × (e ≤ length text) × (p + 1 ≤ d) × (d ≤ length text)
-    second_inside = let l = longer b q in (l, second.1.inside, omega (arith, a.longer), omega (arith, comma_inside.1))
-      where
-        longer : {e w : ℕ} → NumberAt text (d + 1) e w → (e ≡ d + 1 → ⊥) → d + 1 ≤ e
-        longer (nothing u z) q = omega arith
-        longer (spelt_as b c u l s r) q = omega arith
-
     pub not_closed : (x y : Refusal) → (get_or text e 0 ≡ 93 → ⊥) → x ≡ cond (leb w 1023) (RuleSyntax e) (RuleLimit (d + 1)) → y ≡ cond (leb v 1023) x (RuleLimit (p + 1))
-        → IntervalRead text p (I.Refused y)
+        → IntervalRead text p (Err y)
     unfolding IntervalRead
     not_closed x y z f g = (
       tt,
@@ -132,14 +123,16 @@ module _ (text : List ℕ) (p d v : ℕ) (a : Comma text p d v) where
           (λ l. one_on m text 14 p (open_far_lower m text k p n s i.0 a.opens d a.number a.spelled i.1 a.comma e second.0 second.1 z (near_far a.near l)))),
     )
 
-    module _ (z : get_or text e 0 ≡ 93) (r : Bool) (o : (x y : ℕ) → Spelled text (p + 1) d x → Spelled text (d + 1) e y → r ≡ ltb y x) where
+    module _ (z : get_or text e 0 ≡ 93) (r : Bool) (o : (x y : ℕ) → take (d - (p + 1)) (drop (p + 1) text) ≡ digits x → take (e - (d + 1)) (drop (d + 1) text) ≡ digits y → r ≡ ltb y x) where
       order : r ≡ ltb second.0 a.number
-      order = o a.number second.0 (subst (λ (i : ℕ). Spelled text i d a.number) (sym (add-one p)) a.spelled) (subst (λ (i : ℕ). Spelled text i e second.0) (sym (add-one d)) second.1)
+      order =
+          o a.number second.0 (ap (λ (i : ℕ). take (d - i) (drop i text)) (add-one p) ∙ spelled_bytes text (suc p) d a.number a.spelled)
+          (ap (λ (i : ℕ). take (e - i) (drop i text)) (add-one d) ∙ spelled_bytes text (suc d) e second.0 second.1)
 
       closes : e < length text
       closes = inside_text text e 93 z (omega arith)
 
-      pub crossed : r ≡ true → IntervalRead text p (I.Refused (RuleLimit p))
+      pub crossed : r ≡ true → IntervalRead text p (Err (RuleLimit p))
       unfolding IntervalRead
       crossed f = (
         tt,
@@ -148,7 +141,7 @@ module _ (text : List ℕ) (p d v : ℕ) (a : Comma text p d v) where
       )
 
       module _ (f : r ≡ false) where
-        pub far_first : 1023 < v → IntervalRead text p (I.Refused (RuleLimit (p + 1)))
+        pub far_first : 1023 < v → IntervalRead text p (Err (RuleLimit (p + 1)))
         unfolding IntervalRead
         far_first l = (
           tt,
@@ -156,7 +149,7 @@ module _ (text : List ℕ) (p d v : ℕ) (a : Comma text p d v) where
               one_on m text 14 p (far_lower_closed m text k p n s i.0 a.opens d a.number a.spelled i.1 a.comma e second.0 second.1 (ltb-false second.0 a.number (sym order ∙ f)) (near_far a.near l)),
         )
 
-        pub far_second : v ≤ 1023 → 1023 < w → IntervalRead text p (I.Refused (RuleLimit (d + 1)))
+        pub far_second : v ≤ 1023 → 1023 < w → IntervalRead text p (Err (RuleLimit (d + 1)))
         unfolding IntervalRead
         far_second l g = (
           tt,
@@ -164,7 +157,7 @@ module _ (text : List ℕ) (p d v : ℕ) (a : Comma text p d v) where
               one_on m text 14 d (far_upper_closed m text k p n s i.0 a.opens d a.number a.spelled i.1 a.comma e second.0 second.1 (ltb-false second.0 a.number (sym order ∙ f)) (near_good a.near l) (near_far second.2 g)),
         )
 
-        pub interval_read : v ≤ 1023 → w ≤ 1023 → IntervalRead text p (I.Read (record { at = e + 1; lower = v; upper = w }))
+        pub interval_read : v ≤ 1023 → w ≤ 1023 → IntervalRead text p (Ok (record { at = e + 1; lower = v; upper = w }))
         unfolding IntervalRead
         interval_read l g = (
           (l, g),
@@ -193,66 +186,77 @@ module _ (text : List ℕ) (p d v : ℕ) (a : Comma text p d v) where
 
 -- ---- words
 
-whole_matched : {text word : List ℕ} {at n : ℕ} → Matching text at word n → length word ≤ n → n ≡ length word
-whole_matched r h = omega (arith, r.short)
-
 pub matched_text : (text : List ℕ) (at : ℕ) (word : List ℕ) (n : ℕ) → Matching text at word n → length word ≤ n → drop at text ≡ word ++ drop (at + n) text
 matched_text text at word n r h = r.alike ∙ ap (λ (w : List ℕ). w ++ drop (at + n) text) (take_all n word h)
 
-module _ (text : List ℕ) (at : ℕ) (rest : List ℕ) (kind n : ℕ) (r : Matching text at rest n) where
-  pub word_cut : n < length rest → WordRead text at rest kind (W.Refused (RuleSyntax (at + n)))
+-- what `word_at` found, by its result
+module _ (text : List ℕ) (at : ℕ) (word : List ℕ) (found : Result ℕ Refusal) (d : WordAt text at word found) where
+  pub cut_at : (q : Refusal) → found ≡ Err q → (n : ℕ) × (n < length word) × Matching text at word n × (q ≡ RuleSyntax (at + n))
+  cut_at q e = subst (WordAt text at word) e d
+
+  pub word_there : (e : ℕ) → found ≡ Ok e → (e ≡ at + length word) × Matching text at word (length word)
+  word_there e f = subst (WordAt text at word) f d
+
+module _ (text : List ℕ) (at : ℕ) (rest : List ℕ) (kind : LineKind) (found : Result ℕ Refusal) (d : WordAt text at rest found) where
+  pub word_refused : (q : Refusal) → found ≡ Err q → WordRead text at rest kind (Err q)
   unfolding WordRead
-  word_cut h = λ p m l k s. word_broken m text rest l at k n p s r h
+  word_refused q f = λ p m l k s. let w = cut_at text at rest found d q f in subst (Refuses m text) (sym w.3) (word_broken m text rest l at k w.0 p s w.2 w.1)
 
-  whole_state : (m k : ℕ) (l : List Wanted) → length rest ≤ n → PlainWord rest → State m text (bytes rest l) at k → State m text l (at + n) k
-  whole_state m k l h p s =
-      let e = whole_matched r h in
-      subst (λ (j : ℕ). State m text l (at + j) k) (sym e) (word_read m text rest l at k p s (subst (Matching text at rest) e r))
-
-  pub word_done : length rest ≤ n → WordRead text at rest kind (W.Read (record { at = at + n; kind = kind; lower = 0; upper = 0 }))
-  unfolding WordRead
-  word_done h = λ p m l k s. (whole_state m k l h p s, matched_text text at rest n r h, refl)
-
-  pub timed_cut : n < length rest → TimedRead text at rest kind (W.Refused (RuleSyntax (at + n)))
+  pub timed_cut : (q : Refusal) → found ≡ Err q → TimedRead text at rest kind (Err q)
   unfolding TimedRead
-  timed_cut h = λ p m k j s. word_broken m text rest (byte 91 ∷ bounds k) at j n p s r h
+  timed_cut q f = λ p m k j s. let w = cut_at text at rest found d q f in subst (Refuses m text) (sym w.3) (word_broken m text rest (byte 91 ∷ bounds k) at j w.0 p s w.2 w.1)
 
-  module _ (h : length rest ≤ n) (x : Interval) (i : IntervalRead text (at + n) x) where
-    reads : (m : ℕ) (k : List Wanted) (j : ℕ) → PlainWord rest → State m text (bytes rest (byte 91 ∷ bounds k)) at j → IntervalOut m text k (at + n) j x
-    unfolding IntervalRead
-    reads m k j p s = i.1 m k j (whole_state m j (byte 91 ∷ bounds k) h p s)
+  module _ (e : ℕ) (f : found ≡ Ok e) where
+    there : (e ≡ at + length rest) × Matching text at rest (length rest)
+    there = word_there text at rest found d e f
 
-    pub timed_refused : (q : Refusal) → x ≡ I.Refused q → TimedRead text at rest kind (W.Refused q)
-    unfolding TimedRead
-    timed_refused q e = λ p m k j s. subst (λ (z : Interval). IntervalOut m text k (at + n) j z) e (reads m k j p s)
+    word_state : (m k : ℕ) (l : List Wanted) → PlainWord rest → State m text (bytes rest l) at k → State m text l e k
+    word_state m k l p s = subst (λ (j : ℕ). State m text l j k) (sym there.0) (word_read m text rest l at k p s there.1)
 
-    module _ (b : Bounds) (e : x ≡ I.Read b) where
-      good : (m : ℕ) (k : List Wanted) (j : ℕ) → PlainWord rest → State m text (bytes rest (byte 91 ∷ bounds k)) at j → IntervalGood m text k (at + n) j b.at b.lower b.upper
-      good m k j p s = subst (λ (z : Interval). IntervalOut m text k (at + n) j z) e (reads m k j p s)
+    word_text : drop at text ≡ rest ++ drop e text
+    word_text = matched_text text at rest (length rest) there.1 (omega arith) ∙ ap (λ (j : ℕ). rest ++ drop j text) (sym there.0)
 
-      pub narrow : (b.lower ≤ 1023) × (b.upper ≤ 1023)
+    pub word_done : WordRead text at rest kind (Ok (record { at = e; kind = kind; lower = 0; upper = 0 }))
+    unfolding WordRead
+    word_done = λ p m l k s. (word_state m k l p s, word_text, refl)
+
+    module _ (x : Result Bounds Refusal) (i : IntervalRead text e x) where
+      reads : (m : ℕ) (k : List Wanted) (j : ℕ) → PlainWord rest → State m text (bytes rest (byte 91 ∷ bounds k)) at j → IntervalOut m text k e j x
       unfolding IntervalRead
-      narrow = subst Narrow e i.0
+      reads m k j p s = i.1 m k j (word_state m j (byte 91 ∷ bounds k) p s)
 
-      pub no_space : (get_or text b.at 0 ≡ 32 → ⊥) → TimedRead text at rest kind (W.Refused (RuleSyntax b.at))
+      pub timed_refused : (q : Refusal) → x ≡ Err q → TimedRead text at rest kind (Err q)
       unfolding TimedRead
-      no_space f = λ p m k j s. no_plain_byte m text 32 (term ∷ byte 41 ∷ k) b.at j (good m k j p s).state f
+      timed_refused q g = λ p m k j s. subst (λ (z : Result Bounds Refusal). IntervalOut m text k e j z) g (reads m k j p s)
 
-      pub timed_done : get_or text b.at 0 ≡ 32 → TimedRead text at rest kind (W.Read (record { at = b.at + 1; kind = kind; lower = b.lower; upper = b.upper }))
-      unfolding TimedRead
-      timed_done f = λ p m k j s.
-          let g = good m k j p s in
-          let l = inside_text text b.at 32 f (omega arith) in (
-            subst (λ (z : ℕ). State m text (term ∷ byte 41 ∷ k) z j) (sym (add-one b.at)) (plain_byte m text 32 (term ∷ byte 41 ∷ k) b.at j refl g.state l f),
-            matched_text text at rest n r h ∙ ap (λ (w : List ℕ). rest ++ w) (g.stands ∙ ap (λ (w : List ℕ). T.interval b.lower b.upper ++ w)
-                (drop-cons text b.at 0 l ∙ ap (λ (c : ℕ). c ∷ drop (suc b.at) text) f ∙ ap (λ (z : ℕ). 32 ∷ drop z text) (sym (add-one b.at)))),
-            refl,
-          )
+      module _ (b : Bounds) (g : x ≡ Ok b) where
+        good : (m : ℕ) (k : List Wanted) (j : ℕ) → PlainWord rest → State m text (bytes rest (byte 91 ∷ bounds k)) at j → IntervalGood m text k e j b.at b.lower b.upper
+        good m k j p s = subst (λ (z : Result Bounds Refusal). IntervalOut m text k e j z) g (reads m k j p s)
+
+        pub no_space : (get_or text b.at 0 ≡ 32 → ⊥) → TimedRead text at rest kind (Err (RuleSyntax b.at))
+        unfolding TimedRead
+        no_space h = λ p m k j s. no_plain_byte m text 32 (term ∷ byte 41 ∷ k) b.at j (good m k j p s).state h
+
+        pub timed_done : get_or text b.at 0 ≡ 32 → TimedRead text at rest kind (Ok (record { at = b.at + 1; kind = kind; lower = b.lower; upper = b.upper }))
+        unfolding TimedRead
+        timed_done h = λ p m k j s.
+            let o = good m k j p s in
+            let l = inside_text text b.at 32 h (omega arith) in (
+              subst (λ (z : ℕ). State m text (term ∷ byte 41 ∷ k) z j) (sym (add-one b.at)) (plain_byte m text 32 (term ∷ byte 41 ∷ k) b.at j refl o.state l h),
+              word_text ∙ ap (λ (w : List ℕ). rest ++ w) (o.stands ∙ ap (λ (w : List ℕ). T.interval b.lower b.upper ++ w)
+                  (drop-cons text b.at 0 l ∙ ap (λ (c : ℕ). c ∷ drop (suc b.at) text) h ∙ ap (λ (z : ℕ). 32 ∷ drop z text) (sym (add-one b.at)))),
+              refl,
+            )
+
+-- a bound that was read is no wider than its field
+pub narrow : (text : List ℕ) (at : ℕ) (x : Result Bounds Refusal) (b : Bounds) → IntervalRead text at x → x ≡ Ok b → (b.lower ≤ 1023) × (b.upper ≤ 1023)
+unfolding IntervalRead
+narrow text at x b i e = subst Narrow e i.0
 
 -- ---- what joins two terms
 
 module _ (text : List ℕ) (at : ℕ) where
-  pub joint_no_space : (get_or text at 0 ≡ 32 → ⊥) → JointRead text at (W.Refused (RuleSyntax at))
+  pub joint_no_space : (get_or text at 0 ≡ 32 → ⊥) → JointRead text at (Err (RuleSyntax at))
   unfolding JointRead
   joint_no_space h = λ m k n s. no_plain_byte m text 32 (joint ∷ k) at n s h
 
@@ -265,7 +269,7 @@ module _ (text : List ℕ) (at : ℕ) where
     no_step k c a b d e = four (eqb c 111) (eqb c 97) (eqb c 115) (eqb c 117) _ _ _ _ (ne_eqb c 111 a) (ne_eqb c 97 b) (ne_eqb c 115 d) (ne_eqb c 117 e)
 
     pub no_joint : (get_or text (at + 1) 0 ≡ 111 → ⊥) → (get_or text (at + 1) 0 ≡ 97 → ⊥) → (get_or text (at + 1) 0 ≡ 115 → ⊥) → (get_or text (at + 1) 0 ≡ 117 → ⊥)
-        → JointRead text at (W.Refused (RuleSyntax (at + 1)))
+        → JointRead text at (Err (RuleSyntax (at + 1)))
     unfolding JointRead
     no_joint a b d e = λ m k n s. refuse_syntax (joint ∷ k) (at + 1) n (behind_space m k n s) (no_step k (get_or text (at + 1) 0) a b d e) (λ l. refl) (λ x. absurd (false≢true x))
 
@@ -287,29 +291,29 @@ module _ (text : List ℕ) (at : ℕ) where
           drop-cons text at 0 (omega arith) ∙ ap (λ (x : ℕ). x ∷ drop (suc at) text) h
           ∙ ap (λ (x : ℕ). 32 ∷ drop x text) i ∙ ap (λ (u : List ℕ). 32 ∷ u) (drop-cons text (at + 1) 0 l ∙ ap (λ (x : ℕ). x ∷ drop (suc (at + 1)) text) f ∙ ap (λ (x : ℕ). c ∷ drop x text) j)
 
-      pub plain_joint : (j : T.Joint) (rest : List ℕ) (kind : ℕ) (r : Word) → ((k : List Wanted) → step (joint ∷ k) c ≡ on (bytes rest (term ∷ byte 41 ∷ k)))
-          → c ∷ rest ≡ T.word j ++ 32 ∷ [] → ((a b : ℕ) → formula_numbers (joined j a b) false ≡ numbered kind a b 0 0 false) → PlainWord rest
+      pub plain_joint : (j : T.Joint) (rest : List ℕ) (kind : LineKind) (r : Result Joint Refusal) → ((k : List Wanted) → step (joint ∷ k) c ≡ on (bytes rest (term ∷ byte 41 ∷ k)))
+          → c ∷ rest ≡ T.word j ++ 32 ∷ [] → ((a b : ℕ) → formula_numbers (joined j a b) false ≡ numbered (kind_number kind) a b 0 0 false) → PlainWord rest
           → WordRead text (at + 2) rest kind r → JointRead text at r
       unfolding JointRead WordRead
-      plain_joint j rest kind (W.Refused q) e w codes y r = λ m k n s. r y m (term ∷ byte 41 ∷ k) n (behind_first m k (bytes rest (term ∷ byte 41 ∷ k)) n (e k) s)
-      plain_joint j rest kind (W.Read v) e w codes y r = λ m k n s.
+      plain_joint j rest kind (Err q) e w codes y r = λ m k n s. r y m (term ∷ byte 41 ∷ k) n (behind_first m k (bytes rest (term ∷ byte 41 ∷ k)) n (e k) s)
+      plain_joint j rest kind (Ok v) e w codes y r = λ m k n s.
           let o = r y m (term ∷ byte 41 ∷ k) n (behind_first m k (bytes rest (term ∷ byte 41 ∷ k)) n (e k) s) in (
             j,
             o.0,
             stands ∙ ap (λ (u : List ℕ). 32 ∷ (c ∷ u)) o.1 ∙ ap (λ (u : List ℕ). 32 ∷ (u ++ drop v.at text)) w ∙ ap (λ (u : List ℕ). 32 ∷ u) (append_assoc (T.word j) (32 ∷ []) (drop v.at text)),
-            λ a b. codes a b ∙ sym (ap (λ (x : Joint). numbered x.kind a b x.lower x.upper false) o.2),
+            λ a b. codes a b ∙ sym (ap (λ (x : Joint). numbered (kind_number x.kind) a b x.lower x.upper false) o.2),
           )
 
-      pub timed_joint : (j : ℕ → ℕ → T.Joint) (rest : List ℕ) (kind : ℕ) (r : Word) → ((k : List Wanted) → step (joint ∷ k) c ≡ on (bytes rest (byte 91 ∷ bounds k)))
-          → ((x y : ℕ) → c ∷ (rest ++ T.interval x y) ≡ T.word (j x y)) → ((x y a b : ℕ) → formula_numbers (joined (j x y) a b) false ≡ numbered kind a b x y false) → PlainWord rest
+      pub timed_joint : (j : ℕ → ℕ → T.Joint) (rest : List ℕ) (kind : LineKind) (r : Result Joint Refusal) → ((k : List Wanted) → step (joint ∷ k) c ≡ on (bytes rest (byte 91 ∷ bounds k)))
+          → ((x y : ℕ) → c ∷ (rest ++ T.interval x y) ≡ T.word (j x y)) → ((x y a b : ℕ) → formula_numbers (joined (j x y) a b) false ≡ numbered (kind_number kind) a b x y false) → PlainWord rest
           → TimedRead text (at + 2) rest kind r → JointRead text at r
       unfolding JointRead TimedRead
-      timed_joint j rest kind (W.Refused q) e w codes y r = λ m k n s. r y m k n (behind_first m k (bytes rest (byte 91 ∷ bounds k)) n (e k) s)
-      timed_joint j rest kind (W.Read v) e w codes y r = λ m k n s.
+      timed_joint j rest kind (Err q) e w codes y r = λ m k n s. r y m k n (behind_first m k (bytes rest (byte 91 ∷ bounds k)) n (e k) s)
+      timed_joint j rest kind (Ok v) e w codes y r = λ m k n s.
           let o = r y m k n (behind_first m k (bytes rest (byte 91 ∷ bounds k)) n (e k) s) in (
             j v.lower v.upper,
             o.0,
             stands ∙ ap (λ (u : List ℕ). 32 ∷ (c ∷ u)) (o.1 ∙ sym (append_assoc rest (T.interval v.lower v.upper) (32 ∷ drop v.at text)))
                 ∙ ap (λ (u : List ℕ). 32 ∷ (u ++ 32 ∷ drop v.at text)) (w v.lower v.upper),
-            λ a b. codes v.lower v.upper a b ∙ ap (λ (x : ℕ). numbered x a b v.lower v.upper false) (sym o.2),
+            λ a b. codes v.lower v.upper a b ∙ ap (λ (x : LineKind). numbered (kind_number x) a b v.lower v.upper false) (sym o.2),
           )

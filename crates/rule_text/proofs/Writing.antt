@@ -2,13 +2,12 @@
 use Prim.Native.Nat.{ℕ, zero, suc, ◌+◌, ◌-◌, ◌≤◌, ◌<◌}
 use Rattle.std.proofs.Common.{arith, sym, ◌∙◌, true≢false, get_or-set_same, get_or-set_other, eqb-true, eq-eqb, ne_eqb}
 use Rattle.std.proofs.Math.Decide.{dec_lt}
-use Rattle.std.specs.Prelude.{◌≡◌, Bool, true, false, cond, ◌&&◌, eqb, leb, get_or, set}
+use Rattle.std.specs.Prelude.{◌≡◌, Bool, true, false, cond, ◌&&◌, eqb, leb, get_or, set, Err, Ok, Result}
 use Rattle.std.proofs.Math.Path.{refl, ap, ap₂, subst}
 use mathlib.Core.List.{List, [], ◌∷◌, ◌++◌}
 use Rattle.std.proofs.Math.ListN.{length}
 use Rattle.refusal.specs.declared.Refusal.{Refusal}
 use Rattle.refusal.specs.declared.Refusal.TheVariants.{BadHeading, BadSubformula, RuleCount, ShortBuffer}
-use Rattle.refusal.specs.declared.Written.TheVariants as W
 use Rattle.refusal.specs.Numbers.{refusal_number, refusal_place}
 use Rattle.refusal.proofs.Numbers.{only_one}
 use Rattle.refusal.specs.Checks.{Check, check, first_failed}
@@ -30,8 +29,6 @@ use Rattle.rule_grammar.specs.Places as P
 use Rattle.rule_grammar.proofs.PlaceLaws.{one_answer}
 use Rattle.rule_grammar.proofs.Answers.{answer_of, answered}
 use Rattle.rule_text.specs.declared.Cursor.{Cursor}
-use Rattle.rule_text.specs.declared.Step.{Step}
-use Rattle.rule_text.specs.declared.Step.TheVariants as S
 use Rattle.rule_text.specs.Gathered.{as_rule, gathered}
 use Rattle.rule_text.specs.Steps.{RuleOut, RuleRead}
 use Rattle.rule_text.specs.Compiled.{marked, rule_policy, typed, compile_of}
@@ -147,8 +144,8 @@ encoded_with m c t n f lines out o e g = g ∙ ap (λ (l : List LineNumbers). en
 pub sizes_small : (m c t : ℕ) → heading_good m c t 1 ≡ true → m ≤ 32
 sizes_small m c t e = ((heading_law (record { propositions = m; components = c; minutes = t; count = 1; lines = [] })).0 e).propositions_in.high
 
-module _ (m : ℕ) (text : List ℕ) (g : List ℕ) (s : Step) (k : Cursor) (d : RuleRead m text g s) (q : s ≡ S.Read k) where
-  read_out : RuleOut m text g (S.Read k)
+module _ (m : ℕ) (text : List ℕ) (g : List ℕ) (s : Result Cursor Refusal) (k : Cursor) (d : RuleRead m text g s) (q : s ≡ Ok k) where
+  read_out : RuleOut m text g (Ok k)
   unfolding RuleRead
   read_out = subst (RuleOut m text g) q d.1
 
@@ -156,7 +153,7 @@ module _ (m : ℕ) (text : List ℕ) (g : List ℕ) (s : Step) (k : Cursor) (d :
   read_count = (omega (arith, read_out.2), read_out.3)
 
 module _ (m c t : ℕ) (text out : List ℕ) where
-  pub compiled_bad : heading_good m c t 1 ≡ false → ◌≡◌ {A = Output} (record { answer = W.Refused (BadHeading 0); out = out }) (compile_of m c t text out)
+  pub compiled_bad : heading_good m c t 1 ≡ false → ◌≡◌ {A = Output} (record { answer = Err (BadHeading 0); out = out }) (compile_of m c t text out)
   unfolding compile_of
   compiled_bad e = rw e refl
 
@@ -164,14 +161,14 @@ module _ (m c t : ℕ) (text out : List ℕ) where
   unfolding compile_of
   compiled_good e a h = rw e (ap (typed m c t out) (one_answer m text a (answer_of m text) h (answered m text)))
 
-  pub compiled_refused : (g : List ℕ) (s : Step) (r : Refusal) → heading_good m c t 1 ≡ true → RuleRead m text g s → s ≡ S.Refused r
-      → ◌≡◌ {A = Output} (record { answer = W.Refused r; out = out }) (compile_of m c t text out)
+  pub compiled_refused : (g : List ℕ) (s : Result Cursor Refusal) (r : Refusal) → heading_good m c t 1 ≡ true → RuleRead m text g s → s ≡ Err r
+      → ◌≡◌ {A = Output} (record { answer = Err r; out = out }) (compile_of m c t text out)
   unfolding RuleRead
   compiled_refused g s r e d q =
-      ap (λ (x : Refusal). record { answer = W.Refused x; out = out }) (sym (only_one r))
+      ap (λ (x : Refusal). record { answer = Err x; out = out }) (sym (only_one r))
       ∙ compiled_good e (P.Refused (refusal_number r) (refusal_place r)) (subst (RuleOut m text g) q d.1)
 
-  module _ (g : List ℕ) (s : Step) (k : Cursor) (d : RuleRead m text g s) (q : s ≡ S.Read k) where
+  module _ (g : List ℕ) (s : Result Cursor Refusal) (k : Cursor) (d : RuleRead m text g s) (q : s ≡ Ok k) where
     pub compiled_read : (o : Output) → heading_good m c t 1 ≡ true → o ≡ encode_of (gathered m c t k.lines g) out → o ≡ compile_of m c t text out
     compiled_read o e w =
         let x = read_out m text g s k d q in

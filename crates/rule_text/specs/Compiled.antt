@@ -1,8 +1,7 @@
 -- 02, request 7: what the call gives. `Readable`, `Longest`, `TooMuch`, `Cause` and `Answered` of rule_grammar (Places) say which texts are read and
 -- which are refused where; here the policy that an accepted one becomes.
-use Rattle.std.specs.Prelude.{ℕ, true, false, cond, List, [], ◌∷◌}
+use Rattle.std.specs.Prelude.{ℕ, true, false, cond, List, [], ◌∷◌, Err}
 use Rattle.refusal.specs.declared.Refusal.TheVariants.{BadHeading}
-use Rattle.refusal.specs.declared.Written.TheVariants as W
 use Rattle.refusal.specs.Numbers.{refusal_of}
 use Rattle.refusal.specs.Writes.{Output}
 use Rattle.mtl.specs.declared.Formula.{Formula}
@@ -28,10 +27,10 @@ rule_policy propositions components minutes x =
 -- "Each accepted text .. becomes a card, written as in ticket 3"; else 13 or 14, and nothing is written
 abbrev pub typed : ℕ → ℕ → ℕ → List ℕ → Answer → Output
 typed propositions components minutes out (Taken x) = encode_of (rule_policy propositions components minutes x) out
-typed propositions components minutes out (Refused number place) = record { answer = W.Refused (refusal_of number place); out = out }
+typed propositions components minutes out (Refused number place) = record { answer = Err (refusal_of number place); out = out }
 
 -- "Marks, stations and minutes are given beside the text and keep refusal 2, at place 0; 11 is tested last"
 unfoldable pub compile_of : ℕ → ℕ → ℕ → List ℕ → List ℕ → Output
 compile_of propositions components minutes text out =
     cond (heading_good propositions components minutes 1) (typed propositions components minutes out (answer_of propositions text))
-    (record { answer = W.Refused (BadHeading 0); out = out })
+    (record { answer = Err (BadHeading 0); out = out })

@@ -1,6 +1,9 @@
 -- What each function of the reader says, over what a reader knows at a place (`State` of rule_grammar). A refusal is the answer to the whole text.
-use Rattle.std.specs.Prelude.{ℕ, zero, suc, ◌+◌, ◌-◌, ◌≤◌, ◌<◌, ◌≡◌, false, List, [], ◌∷◌, ◌++◌, length, get_or, drop}
+use Rattle.rule_text.specs.declared.Run.{Run}
+use Rattle.rule_text.specs.declared.Bounds.{Bounds}
+use Rattle.std.specs.Prelude.{ℕ, zero, suc, ◌+◌, ◌-◌, ◌≤◌, ◌<◌, ◌≡◌, false, List, [], ◌∷◌, ◌++◌, length, get_or, drop, Err, Ok, Result}
 use Rattle.refusal.specs.declared.Refusal.{Refusal}
+use Rattle.refusal.specs.declared.Refusal.TheVariants.{RuleSyntax}
 use Rattle.refusal.specs.Numbers.{refusal_number, refusal_place}
 use Rattle.mtl.specs.declared.Formula.TheVariants as F
 use Rattle.policy.specs.Text.{numbered, formula_numbers}
@@ -12,17 +15,11 @@ use Rattle.rule_grammar.specs.Places as P
 use Rattle.rule_grammar.specs.Automaton.{Wanted, byte, term, joint, bytes, right, bounds}
 use Rattle.rule_grammar.specs.Brackets.{closers, wants_term}
 use Rattle.rule_grammar.specs.Progress.{State}
-use Rattle.rule_grammar.specs.Numbers.{Spelled, PlainWord}
-use Rattle.rule_text.specs.declared.Interval.{Interval}
-use Rattle.rule_text.specs.declared.Interval.TheVariants as I
+use Rattle.rule_grammar.specs.Numbers.{Matching, Spelled, PlainWord}
+use Rattle.policy.specs.declared.LineKind.{LineKind}
+use Rattle.policy.specs.LineKinds.{kind_number}
 use Rattle.rule_text.specs.declared.Joint.{Joint}
-use Rattle.rule_text.specs.declared.Word.{Word}
-use Rattle.rule_text.specs.declared.Word.TheVariants as W
-use Rattle.rule_text.specs.declared.Nots.{Nots}
-use Rattle.rule_text.specs.declared.Nots.TheVariants as N
 use Rattle.rule_text.specs.declared.Cursor.{Cursor}
-use Rattle.rule_text.specs.declared.Step.{Step}
-use Rattle.rule_text.specs.declared.Step.TheVariants as S
 use Rattle.rule_text.specs.Gathered.{Writes, not_lines}
 
 -- the text is answered so
@@ -57,46 +54,51 @@ pub record IntervalGood (m : ℕ) (text : List ℕ) (k : List Wanted) (p n e low
   pub state : State m text (right k) e n
   pub stands : drop p text ≡ T.interval lower upper ++ drop e text
 
-abbrev pub IntervalOut : ℕ → List ℕ → List Wanted → ℕ → ℕ → Interval → Type 0
-IntervalOut m text k p n (I.Read b) = IntervalGood m text k p n b.at b.lower b.upper
-IntervalOut m text k p n (I.Refused r) = Refuses m text r
+abbrev pub IntervalOut : ℕ → List ℕ → List Wanted → ℕ → ℕ → Result Bounds Refusal → Type 0
+IntervalOut m text k p n (Ok b) = IntervalGood m text k p n b.at b.lower b.upper
+IntervalOut m text k p n (Err r) = Refuses m text r
 
-abbrev pub Narrow : Interval → Type 0
-Narrow (I.Read b) = (b.lower ≤ 1023) × (b.upper ≤ 1023)
-Narrow (I.Refused r) = Unit
+abbrev pub Narrow : Result Bounds Refusal → Type 0
+Narrow (Ok b) = (b.lower ≤ 1023) × (b.upper ≤ 1023)
+Narrow (Err r) = Unit
 
-unfoldable pub IntervalRead : List ℕ → ℕ → Interval → Type 0
+unfoldable pub IntervalRead : List ℕ → ℕ → Result Bounds Refusal → Type 0
 IntervalRead text p r = Narrow r × ((m : ℕ) (k : List Wanted) (n : ℕ) → State m text (byte 91 ∷ bounds k) p n → IntervalOut m text k p n r)
 
 -- ---- words
 
-abbrev pub WordOut : ℕ → List ℕ → List Wanted → ℕ → ℕ → List ℕ → ℕ → Word → Type 0
-WordOut m text l at n rest kind (W.Read w) =
-    State m text l w.at n × (drop at text ≡ rest ++ drop w.at text) × (w ≡ record { at = w.at; kind = kind; lower = 0; upper = 0 })
-WordOut m text l at n rest kind (W.Refused r) = Refuses m text r
+-- the word stands there, up to the place that is told; or the refusal is at the first byte that is not the word's
+abbrev pub WordAt : List ℕ → ℕ → List ℕ → Result ℕ Refusal → Type 0
+WordAt text at word (Ok e) = (e ≡ at + length word) × Matching text at word (length word)
+WordAt text at word (Err r) = (n : ℕ) × (n < length word) × Matching text at word n × (r ≡ RuleSyntax (at + n))
 
-unfoldable pub WordRead : List ℕ → ℕ → List ℕ → ℕ → Word → Type 0
+abbrev pub WordOut : ℕ → List ℕ → List Wanted → ℕ → ℕ → List ℕ → LineKind → Result Joint Refusal → Type 0
+WordOut m text l at n rest kind (Ok w) =
+    State m text l w.at n × (drop at text ≡ rest ++ drop w.at text) × (w ≡ record { at = w.at; kind = kind; lower = 0; upper = 0 })
+WordOut m text l at n rest kind (Err r) = Refuses m text r
+
+unfoldable pub WordRead : List ℕ → ℕ → List ℕ → LineKind → Result Joint Refusal → Type 0
 WordRead text at rest kind r = PlainWord rest → (m : ℕ) (l : List Wanted) (n : ℕ) → State m text (bytes rest l) at n → WordOut m text l at n rest kind r
 
-abbrev pub TimedOut : ℕ → List ℕ → List Wanted → ℕ → ℕ → List ℕ → ℕ → Word → Type 0
-TimedOut m text k at n rest kind (W.Read w) =
+abbrev pub TimedOut : ℕ → List ℕ → List Wanted → ℕ → ℕ → List ℕ → LineKind → Result Joint Refusal → Type 0
+TimedOut m text k at n rest kind (Ok w) =
     State m text (term ∷ byte 41 ∷ k) w.at n × (drop at text ≡ rest ++ (T.interval w.lower w.upper ++ 32 ∷ drop w.at text)) × (w.kind ≡ kind)
-TimedOut m text k at n rest kind (W.Refused r) = Refuses m text r
+TimedOut m text k at n rest kind (Err r) = Refuses m text r
 
-unfoldable pub TimedRead : List ℕ → ℕ → List ℕ → ℕ → Word → Type 0
+unfoldable pub TimedRead : List ℕ → ℕ → List ℕ → LineKind → Result Joint Refusal → Type 0
 TimedRead text at rest kind r =
     PlainWord rest → (m : ℕ) (k : List Wanted) (n : ℕ) → State m text (bytes rest (byte 91 ∷ bounds k)) at n → TimedOut m text k at n rest kind r
 
 -- the kind and the interval are those of a group's line, whatever its operands
 abbrev pub Codes : Joint → T.Joint → Type 0
-Codes w j = (a b : ℕ) → formula_numbers (joined j a b) false ≡ numbered w.kind a b w.lower w.upper false
+Codes w j = (a b : ℕ) → formula_numbers (joined j a b) false ≡ numbered (kind_number w.kind) a b w.lower w.upper false
 
-abbrev pub JointOut : ℕ → List ℕ → List Wanted → ℕ → ℕ → Word → Type 0
-JointOut m text k at n (W.Read w) =
+abbrev pub JointOut : ℕ → List ℕ → List Wanted → ℕ → ℕ → Result Joint Refusal → Type 0
+JointOut m text k at n (Ok w) =
     (j : T.Joint) × State m text (term ∷ byte 41 ∷ k) w.at n × (drop at text ≡ 32 ∷ (T.word j ++ 32 ∷ drop w.at text)) × Codes w j
-JointOut m text k at n (W.Refused r) = Refuses m text r
+JointOut m text k at n (Err r) = Refuses m text r
 
-unfoldable pub JointRead : List ℕ → ℕ → Word → Type 0
+unfoldable pub JointRead : List ℕ → ℕ → Result Joint Refusal → Type 0
 JointRead text at r = (m : ℕ) (k : List Wanted) (n : ℕ) → State m text (byte 32 ∷ joint ∷ k) at n → JointOut m text k at n r
 
 -- ---- terms
@@ -106,16 +108,16 @@ abbrev pub not_text : ℕ → List ℕ
 not_text zero = []
 not_text (suc n) = 110 ∷ 111 ∷ 116 ∷ 32 ∷ not_text n
 
-abbrev pub NotsOut : ℕ → List ℕ → List Wanted → ℕ → ℕ → Nots → Type 0
-NotsOut m text k at started (N.Read run) = State m text (term ∷ k) run.at (started + run.count) × (drop at text ≡ not_text run.count ++ drop run.at text)
-NotsOut m text k at started (N.Refused r) = Refuses m text r
+abbrev pub NotsOut : ℕ → List ℕ → List Wanted → ℕ → ℕ → Result Run Refusal → Type 0
+NotsOut m text k at started (Ok run) = State m text (term ∷ k) run.at (started + run.count) × (drop at text ≡ not_text run.count ++ drop run.at text)
+NotsOut m text k at started (Err r) = Refuses m text r
 
 -- a term other than "not" may start behind the run
-abbrev pub Few : List ℕ → ℕ → Nots → Type 0
-Few text started (N.Read run) = (started + run.count < 64) × (get_or text run.at 0 ≡ 110 → ⊥)
-Few text started (N.Refused r) = Unit
+abbrev pub Few : List ℕ → ℕ → Result Run Refusal → Type 0
+Few text started (Ok run) = (started + run.count < 64) × (get_or text run.at 0 ≡ 110 → ⊥)
+Few text started (Err r) = Unit
 
-unfoldable pub NotsRead : List ℕ → ℕ → ℕ → Nots → Type 0
+unfoldable pub NotsRead : List ℕ → ℕ → ℕ → Result Run Refusal → Type 0
 NotsRead text at started r = Few text started r × ((m : ℕ) (k : List Wanted) → State m text (term ∷ k) at started → NotsOut m text k at started r)
 
 -- a term stands there up to e, and its lines are gathered
@@ -126,59 +128,53 @@ pub record TermGood (m : ℕ) (text : List ℕ) (k : List Wanted) (at i around :
   pub count : l ≡ i + terms is
   pub written : Writes f g i (lines i is)
 
-abbrev pub TermOut : ℕ → List ℕ → List Wanted → ℕ → ℕ → ℕ → List ℕ → List ℕ → Step → Type 0
-TermOut m text k at i around f g (S.Read c) = TermGood m text k at i around f g c.at c.lines
-TermOut m text k at i around f g (S.Refused r) = Refuses m text r
+abbrev pub TermOut : ℕ → List ℕ → List Wanted → ℕ → ℕ → ℕ → List ℕ → List ℕ → Result Cursor Refusal → Type 0
+TermOut m text k at i around f g (Ok c) = TermGood m text k at i around f g c.at c.lines
+TermOut m text k at i around f g (Err r) = Refuses m text r
 
 -- the lines stay few
-abbrev pub Grown : ℕ → ℕ → Step → Type 0
-Grown i around (S.Read c) = (i < c.lines) × (c.lines + around ≤ 64)
-Grown i around (S.Refused r) = Unit
+abbrev pub Grown : ℕ → ℕ → Result Cursor Refusal → Type 0
+Grown i around (Ok c) = (i < c.lines) × (c.lines + around ≤ 64)
+Grown i around (Err r) = Unit
 
 -- line i, which is no "not" and no group
-unfoldable pub LeafRead : ℕ → List ℕ → ℕ → ℕ → List ℕ → List ℕ → Step → Type 0
+unfoldable pub LeafRead : ℕ → List ℕ → ℕ → ℕ → List ℕ → List ℕ → Result Cursor Refusal → Type 0
 LeafRead m text at i f g r =
     (length g ≡ 384) × ((around : ℕ) → i + around < 64 → Grown i around r)
     × ((k : List Wanted) (around : ℕ) → wants_term k ≡ false → i + around < 64 → (get_or text at 0 ≡ 40 → ⊥) → (get_or text at 0 ≡ 110 → ⊥) → State m text (term ∷ k) at (i + around) → TermOut m text k at i around f g r)
 
-unfoldable pub TermRead : ℕ → List ℕ → ℕ → ℕ → ℕ → ℕ → List ℕ → List ℕ → Step → Type 0
+unfoldable pub TermRead : ℕ → List ℕ → ℕ → ℕ → ℕ → ℕ → List ℕ → List ℕ → Result Cursor Refusal → Type 0
 TermRead m text at i around nesting f g r =
     (length g ≡ 384) × Grown i around r
     × ((k : List Wanted) → wants_term k ≡ false → closers k + nesting ≡ 32 → State m text (term ∷ k) at (i + around) → TermOut m text k at i around f g r)
 
 -- behind "("
-unfoldable pub GroupRead : ℕ → List ℕ → ℕ → ℕ → ℕ → ℕ → List ℕ → List ℕ → Step → Type 0
+unfoldable pub GroupRead : ℕ → List ℕ → ℕ → ℕ → ℕ → ℕ → List ℕ → List ℕ → Result Cursor Refusal → Type 0
 GroupRead m text at i around nesting f g r =
     (length g ≡ 384) × Grown i around r
     × ((k : List Wanted) (p : ℕ) → drop p text ≡ 40 ∷ drop at text → closers k + suc nesting ≡ 32 → State m text (term ∷ byte 32 ∷ joint ∷ k) at (suc (i + around)) → TermOut m text k p i around f g r)
 
--- there is room for n lines more, and there is one at least
-abbrev pub Room : Step → ℕ → Type 0
-Room (S.Read c) n = (0 < c.lines) × (c.lines + n ≤ 64)
-Room (S.Refused r) n = Unit
-
-unfoldable pub Negated : Step → ℕ → List ℕ → List ℕ → Step → Type 0
-Negated (S.Read c) n f g r = (r ≡ S.Read (record { at = c.at; lines = c.lines + n })) × Writes f g c.lines (not_lines (c.lines - 1) n)
-Negated (S.Refused q) n f g r = (r ≡ S.Refused q) × (g ≡ f)
+-- behind c, the lines of a run of n "not" follow the last line
+unfoldable pub Negated : Cursor → ℕ → List ℕ → List ℕ → Cursor → Type 0
+Negated c n f g r = (r ≡ record { at = c.at; lines = c.lines + n }) × Writes f g c.lines (not_lines (c.lines - 1) n)
 
 -- the second term of a group has been read, and the lines of the first end before line `left`
-abbrev pub ClosedOut : ℕ → List ℕ → Cursor → Joint → ℕ → List ℕ → List ℕ → Step → Type 0
-ClosedOut m text c w left f g (S.Read d) =
+abbrev pub ClosedOut : ℕ → List ℕ → Cursor → Joint → ℕ → List ℕ → List ℕ → Result Cursor Refusal → Type 0
+ClosedOut m text c w left f g (Ok d) =
     (get_or text c.at 0 ≡ 41) × (d.at ≡ suc c.at) × (d.lines ≡ suc c.lines)
     × ((j : T.Joint) → Codes w j → Writes f g c.lines (joined j (left - 1) (c.lines - 1) ∷ []))
-ClosedOut m text c w left f g (S.Refused r) = (k : List Wanted) (n : ℕ) → State m text (byte 41 ∷ k) c.at n → Refuses m text r
+ClosedOut m text c w left f g (Err r) = (k : List Wanted) (n : ℕ) → State m text (byte 41 ∷ k) c.at n → Refuses m text r
 
-unfoldable pub ClosedBy : List ℕ → Step → Joint → ℕ → List ℕ → List ℕ → Step → Type 0
-ClosedBy text (S.Read c) w left f g r = (length g ≡ 384) × ((around : ℕ) → c.lines + suc around ≤ 64 → Grown c.lines around r) × ((m : ℕ) → ClosedOut m text c w left f g r)
-ClosedBy text (S.Refused q) w left f g r = (r ≡ S.Refused q) × (g ≡ f)
+unfoldable pub ClosedBy : List ℕ → Cursor → Joint → ℕ → List ℕ → List ℕ → Result Cursor Refusal → Type 0
+ClosedBy text c w left f g r = (length g ≡ 384) × ((around : ℕ) → c.lines + suc around ≤ 64 → Grown c.lines around r) × ((m : ℕ) → ClosedOut m text c w left f g r)
 
 -- ---- the whole text
 
-abbrev pub RuleOut : ℕ → List ℕ → List ℕ → Step → Type 0
-RuleOut m text g (S.Read c) =
+abbrev pub RuleOut : ℕ → List ℕ → List ℕ → Result Cursor Refusal → Type 0
+RuleOut m text g (Ok c) =
     (x : T.Term) × P.Answered m text (P.Taken x) × (c.lines ≡ terms x) × (c.lines ≤ 64)
     × ((j : ℕ) → j < terms x → line_at g j ≡ formula_numbers (get_or (lines 0 x) j F.True) false)
-RuleOut m text g (S.Refused r) = Refuses m text r
+RuleOut m text g (Err r) = Refuses m text r
 
-unfoldable pub RuleRead : ℕ → List ℕ → List ℕ → Step → Type 0
+unfoldable pub RuleRead : ℕ → List ℕ → List ℕ → Result Cursor Refusal → Type 0
 RuleRead m text g r = (length g ≡ 384) × RuleOut m text g r

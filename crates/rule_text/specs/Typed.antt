@@ -1,12 +1,10 @@
 -- What a user of the call may rely on: which texts are refused, with which number and place; what is written; and that what was typed is what is
 -- watched. `Proved` proves it. Which texts are answered how is `Answered` of rule_grammar (Places), with no reader in it; `one_answer` there says that
 -- no text has two answers.
-use Rattle.std.specs.Prelude.{ℕ, ◌≤◌, ◌<◌, ◌≡◌, Bool, true, ◌⊎◌, ◌↔◌, List, [], ◌∷◌, ◌++◌, length, drop}
+use Rattle.std.specs.Prelude.{ℕ, ◌≤◌, ◌<◌, ◌≡◌, Bool, true, ◌⊎◌, ◌↔◌, List, [], ◌∷◌, ◌++◌, length, drop, Err, Ok}
 use Rattle.refusal.specs.declared.Refusal.{Refusal}
-use Rattle.refusal.specs.declared.Answer.TheVariants.{Accepted}
-use Rattle.refusal.specs.declared.Written.TheVariants.{Length, Refused}
-use Rattle.refusal.specs.Checks.{RefusedWith}
-use Rattle.refusal.specs.Writes.{Output, reply}
+use Rattle.refusal.specs.Checks.{RefusedWith, reply}
+use Rattle.refusal.specs.Writes.{Output}
 use Rattle.mtl.specs.Algebra.{two}
 use Rattle.mtl.specs.Reading.{reading}
 use Rattle.mtl.specs.Textbook.{plain}
@@ -43,18 +41,18 @@ pub record CompileCauses (propositions components minutes : ℕ) (text out : Lis
       ↔ ((at ≡ 0) × SizesIn propositions components minutes × (x : Term) × TakenAs propositions text x × (length out < length (text_of (rule_policy propositions components minutes x))))
   pub no_other : (n at : ℕ) → RefusedWith (reply o.answer) n at → ((n ≡ 2) ⊎ (n ≡ 11)) ⊎ ((n ≡ 13) ⊎ (n ≡ 14))
   -- "each accepted text .. becomes a card": the length is told just where no check refuses
-  pub done : (n : ℕ) → (o.answer ≡ Length n)
+  pub done : (n : ℕ) → (o.answer ≡ Ok n)
       ↔ (SizesIn propositions components minutes × (x : Term) × TakenAs propositions text x × (length (text_of (rule_policy propositions components minutes x)) ≤ length out) × (n ≡ length (text_of (rule_policy propositions components minutes x))))
   -- the text from the buffer's start, and the rest of a longer one as it was
-  pub text_written : (n : ℕ) (x : Term) → o.answer ≡ Length n → TakenAs propositions text x → o.out ≡ text_of (rule_policy propositions components minutes x) ++ drop n out
+  pub text_written : (n : ℕ) (x : Term) → o.answer ≡ Ok n → TakenAs propositions text x → o.out ≡ text_of (rule_policy propositions components minutes x) ++ drop n out
   -- a refused call changes nothing
-  pub unwritten : (r : Refusal) → o.answer ≡ Refused r → o.out ≡ out
+  pub unwritten : (r : Refusal) → o.answer ≡ Err r → o.out ≡ out
 
 -- the policy that a text becomes
 pub record Becomes (propositions components minutes : ℕ) (x : Term) : Type 0 where
   -- it is the writer's text of numbers in range, so that the reader takes it
   pub in_range : InRange (rule_policy propositions components minutes x)
-  pub accepted : answer_of (text_of (rule_policy propositions components minutes x)) ≡ Accepted
+  pub accepted : answer_of (text_of (rule_policy propositions components minutes x)) ≡ Ok tt
   -- with the sizes that were given
   pub sizes : (policy_of (text_of (rule_policy propositions components minutes x))).sizes ≡ record { propositions = propositions; components = components; minutes = minutes }
   -- "with a line for each term, in the order in which their text ends, inner before outer"

@@ -40,28 +40,6 @@ pub record Unbroken (m : ℕ) (negated : Bool) (operand left right : ℕ → Tru
   pub held : (s : ℕ) → s < m → left s ≡ true3
   pub sought : (s : ℕ) → right s ≡ literal negated (operand s)
 
--- the kinds of request 6
-abbrev pub Newer : Formula → Type 0
-Newer True = ⊥
-Newer (Proposition p) = ⊥
-Newer (Not i) = ⊥
-Newer (Or i j) = ⊥
-Newer (Since i j lower upper) = ⊥
-Newer (Until i j lower upper) = ⊥
-Newer (And i j) = Unit
-Newer (Implies i j) = Unit
-Newer (Once i lower upper) = Unit
-Newer (Historically i lower upper) = Unit
-Newer (Eventually i lower upper) = Unit
-Newer (Always i lower upper) = Unit
-
--- what the row of such a one is worked from: its operands' rows are there, and its bounds are in range
-pub record Based (z : Sizes) (φ : Formula) (p l : List ℕ) : Type 0 where
-  pub minutes : z.minutes ≤ most_minutes
-  pub points : length p ≡ most_minutes
-  pub operands : Operands (λ i. i * z.minutes + z.minutes ≤ length l) φ
-  pub bounded : Bounded most_bound φ
-
 -- what any subformula's row is worked from
 pub record Workable (z : Sizes) (φ : Formula) (p f l : List ℕ) : Type 0 where
   pub minutes : z.minutes ≤ most_minutes

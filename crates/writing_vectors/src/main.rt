@@ -11,222 +11,129 @@
 // A line that starts with '#' says what the next ones are, and is printed as it is.
 #![tactic(auto)]
 
-ghost use Rattle.std.specs.Prelude.{◌≤◌, ◌<◌};
-
-use message::{Event, MessageNumbers};
+use hex_lines::{Bytes, Hex};
+use message::{Event, Message, MessageNumbers};
 use policy::{LineNumbers, PolicyNumbers};
-use refusal::{Refusal, Written};
+use refusal::Refusal;
+use std::{array, io};
 
-fn show_number(n: u64) {
-    io::write_all(1, b" ");
-    io::print_decimal(1, n);
-}
-
-// A hexadecimal digit.
-fn digit(n: u8) -> u8
-    requires { n < 16 }
-{
-    if n < 10 {
-        return b'0' + n;
-    }
-    b'A' + (n - 10)
-}
-
-fn show_byte(b: u8) {
-    let digits = [digit(b / 16), digit(b % 16)];
-    io::write_all(1, &digits);
-}
-
-fn show_bytes(bytes: &[u8]) {
-    let mut i = 0;
-    while i < bytes.len() {
-        show_byte(bytes[i]);
-        i += 1;
-    }
-}
-
-fn show_answer(answer: Written) {
-    match answer {
-        Written::Length(n) => {
-            io::write_all(1, b" wrote");
-            show_number(n as u64);
-        }
-        Written::Refused(r) => show_refusal(r),
-    }
-}
-
-fn show_refusal(r: Refusal) {
-    io::write_all(1, b" refused");
-    show_number(refusal::number(r) as u64);
-    io::write_all(1, b" at");
-    show_number(refusal::place(r) as u64);
-}
+// How long the longest lent buffer is.
+const MOST_ROOM: usize = 520;
 
 // What a writer answered, and the lent buffer.
-fn show_written(answer: Written, out: &[u8]) {
-    show_answer(answer);
-    if 0 < out.len() {
-        io::write_all(1, b" ");
+fn show_written(rt: &impl Print, answer: Result<usize, Refusal>, out: &[u8]) -> io::Result<()> {
+    match answer {
+        Ok(n) => print!(rt; " wrote {n}")?,
+        Err(r) => print!(rt; " refused {r}")?,
     }
-    show_bytes(out);
-}
-
-// The length of the lent buffer.
-fn room_of(line: &[u8]) -> usize
-    ensures { result ≤ 520 }
-{
-    hex_lines::word_at(line, 1) as usize % 521
+    if out.is_empty() {
+        return Ok(());
+    }
+    print!(rt; " {}", Hex(out))
 }
 
 // ---- a policy
 
-// The numbers of the policy's line i.
-fn numbers_at(line: &[u8], i: usize) -> LineNumbers
-    requires { i < 64 }
-{
-    let at = 11 + 12 * i;
+fn line_numbers(bytes: &mut Bytes<'_>) -> LineNumbers {
     LineNumbers {
-        kind: hex_lines::word_at(line, at),
-        first: hex_lines::word_at(line, at + 2),
-        second: hex_lines::word_at(line, at + 4),
-        lower: hex_lines::word_at(line, at + 6),
-        upper: hex_lines::word_at(line, at + 8),
-        rule: hex_lines::word_at(line, at + 10) != 0,
+        kind: bytes.number(),
+        first: bytes.number(),
+        second: bytes.number(),
+        lower: bytes.number(),
+        upper: bytes.number(),
+        rule: bytes.number::<u16>() != 0,
     }
 }
 
-fn lines_of(line: &[u8]) -> [LineNumbers; 64] {
-    let none = LineNumbers {
-        kind: 0,
-        first: 0,
-        second: 0,
-        lower: 0,
-        upper: 0,
-        rule: false,
-    };
-    let mut lines = [none; 64];
-    let mut i = 0;
-    while i < 64 {
-        lines[i] = numbers_at(line, i);
-        i += 1;
-    }
-    lines
-}
-
-fn policy_numbers(line: &[u8]) -> PolicyNumbers {
-    let lines = lines_of(line);
+fn policy_numbers(bytes: &mut Bytes<'_>) -> PolicyNumbers {
     PolicyNumbers {
-        propositions: hex_lines::word_at(line, 3) as usize,
-        components: hex_lines::word_at(line, 5) as usize,
-        minutes: hex_lines::word_at(line, 7) as usize,
-        count: hex_lines::word_at(line, 9) as usize,
-        lines: lines,
+        propositions: usize::from(bytes.number::<u16>()),
+        components: usize::from(bytes.number::<u16>()),
+        minutes: usize::from(bytes.number::<u16>()),
+        count: usize::from(bytes.number::<u16>()),
+        lines: array::from_fn(|_| line_numbers(bytes)),
     }
 }
 
-fn show_policy(line: &[u8], out: &mut [u8]) {
-    let p = policy_numbers(line);
-    let answer = policy_codec::encode(p, out);
-    show_written(answer, out);
+fn show_policy(rt: &impl Print, bytes: &mut Bytes<'_>, out: &mut [u8]) -> io::Result<()> {
+    let answer = policy_codec::encode(policy_numbers(bytes), out);
+    show_written(rt, answer, out)
 }
 
 // ---- a message
 
-fn is_alive(line: &[u8]) -> bool {
-    hex_lines::byte_at(line, 5) != 0
-}
-
-fn message_numbers(line: &[u8]) -> MessageNumbers {
+fn message_numbers(bytes: &mut Bytes<'_>) -> MessageNumbers {
     MessageNumbers {
-        component: hex_lines::word_at(line, 3) as usize,
-        alive: is_alive(line),
-        minute: hex_lines::word_at(line, 6) as usize,
-        number: hex_lines::wide_at(line, 8) as usize,
-        named: hex_lines::wide_at(line, 12),
-        values: hex_lines::wide_at(line, 16),
+        component: usize::from(bytes.number::<u16>()),
+        alive: bytes.number::<u8>() != 0,
+        minute: usize::from(bytes.number::<u16>()),
+        number: bytes.number::<u32>() as usize,
+        named: bytes.number(),
+        values: bytes.number(),
     }
 }
 
-// Can an event hold the numbers: the sequence number has 2 bytes, and an alive slip names nothing.
-fn fits_event(line: &[u8]) -> bool {
-    let short = hex_lines::word_at(line, 10) == 0;
-    let marks = hex_lines::wide_at(line, 12) | hex_lines::wide_at(line, 16);
-    short & (!is_alive(line) | (marks == 0))
-}
-
-fn event_of(line: &[u8]) -> Event {
-    let minute = hex_lines::word_at(line, 6);
-    let number = hex_lines::word_at(line, 8);
-    if is_alive(line) {
-        return Event::Alive {
-            minute: minute,
-            number: number,
-        };
+// The message of the numbers, where an event can hold them: the sequence number has 2 bytes, and an alive slip names nothing.
+fn message_of(n: MessageNumbers) -> Option<Message> {
+    let minute = u16::try_from(n.minute).ok()?;
+    let number = u16::try_from(n.number).ok()?;
+    if n.alive & (n.named | n.values != 0) {
+        return None;
     }
-    Event::Observation {
-        minute: minute,
-        number: number,
-        named: hex_lines::wide_at(line, 12),
-        values: hex_lines::wide_at(line, 16),
-    }
+    let event = if n.alive {
+        Event::Alive { minute, number }
+    } else {
+        Event::Observation {
+            minute,
+            number,
+            named: n.named,
+            values: n.values,
+        }
+    };
+    Some(Message {
+        component: n.component,
+        event,
+    })
 }
 
-fn show_event(line: &[u8], policy: &[u8], out: &mut [u8]) {
-    let component = hex_lines::word_at(line, 3) as usize;
-    let event = event_of(line);
-    let answer = message_codec::encode(policy, component, event, out);
-    show_written(answer, out);
-}
-
-fn show_message(line: &[u8], policy: &[u8], out: &mut [u8], other: &mut [u8]) {
-    let n = message_numbers(line);
-    let answer = message_codec::encode_numbers(policy, n, out);
-    show_written(answer, out);
-    if fits_event(line) {
-        io::write_all(1, b" event");
-        show_event(line, policy, other);
-    }
-}
-
-fn show_message_vector(line: &[u8], out: &mut [u8], other: &mut [u8]) {
-    let mut policy = [0u8; 256];
-    let n = hex_lines::bytes_from(line, 20, &mut policy);
-    show_message(line, &policy[0..n], out, other);
+// The other buffer is lent to the writer of events.
+fn show_message(
+    rt: &impl Print,
+    bytes: &mut Bytes<'_>,
+    out: &mut [u8],
+    other: &mut [u8],
+) -> io::Result<()> {
+    let numbers = message_numbers(bytes);
+    let mut lent = [0u8; 256];
+    let n = bytes.copy_to(&mut lent);
+    let policy = &lent[..n];
+    let answer = message_codec::encode_numbers(policy, numbers, out);
+    show_written(rt, answer, out)?;
+    let Some(message) = message_of(numbers) else {
+        return Ok(());
+    };
+    print!(rt; " event")?;
+    let answer = message_codec::encode(policy, message, other);
+    show_written(rt, answer, other)
 }
 
 // ---- lines
 
-fn show_vector(line: &[u8]) {
-    let room = room_of(line);
-    let mut out = [0xEEu8; 520];
-    let mut other = [0xEEu8; 520];
-    if hex_lines::byte_at(line, 0) == 0 {
-        show_policy(line, &mut out[0..room]);
+fn show_vector(rt: &impl Print, line: &[u8]) -> io::Result<()> {
+    let mut bytes = Bytes::of(line);
+    // A byte and no enum: it is looked at once, here.
+    let kind: u8 = bytes.number();
+    let room = usize::from(bytes.number::<u16>()) % (MOST_ROOM + 1);
+    let mut out = [0xEEu8; MOST_ROOM];
+    let mut other = [0xEEu8; MOST_ROOM];
+    print!(rt; ":")?;
+    if kind == 0 {
+        show_policy(rt, &mut bytes, &mut out[..room])
     } else {
-        show_message_vector(line, &mut out[0..room], &mut other[0..room]);
+        show_message(rt, &mut bytes, &mut out[..room], &mut other[..room])
     }
 }
 
-fn show_line(line: &[u8]) {
-    io::write_all(1, line);
-    if 0 < line.len() && line[0] != b'#' {
-        io::write_all(1, b":");
-        show_vector(line);
-    }
-    io::write_all(1, b"\n");
-}
-
-fn show_lines(text: &[u8]) {
-    let mut at = 0;
-    while at < text.len() {
-        let end = hex_lines::line_end(text, at);
-        show_line(&text[at..end]);
-        at = end + 1;
-    }
-}
-
-fn main() {
-    let mut text = io::large_buffer();
-    let n = io::read_full(0, &mut text);
-    show_lines(&text[..n]);
+fn main(rt: HostRuntime) {
+    hex_lines::echo_lines(&rt, |line| show_vector(&rt, line));
 }

@@ -1,19 +1,12 @@
--- `counter_runs::follows` meets its contract: the two tests are those of `follow`.
--- Assumes nothing.
-use mathlib.Core.Path.{sym}
-use Prim.Native.Nat.{◌+◌}
-use native.Mathlib.Omega.{arith}
-use Rattle.decide.proofs.Laws.{is_false, agree, same, most}
-use Rattle.knowledge.proofs.Runs.{follow_decides}
+-- `counter_runs::follows` meets its contract: the two tests are those of `follow`. Assumes nothing.
+use Rattle.std.proofs.Common.{rules}
+use Rattle.knowledge.specs.Knowledge.{follow}
 use Rattle.counter_runs.proofs.follows.Goals as goal
 
-pub returns-then-w-v : goal.returns-then-w-v
-returns-then-w-v c =
-    let x = c.args in
-    sym (is_false (follow_decides x.v x.w x.d) (λ f. let u = f.up in omega arith))
+pub returns-then-v-w : goal.returns-then-v-w
+unfolding follow
+returns-then-v-w c = search rules
 
-pub returns : goal.returns
-returns c =
-    let x = c.args in
-    let le = c.if-w-v.false in
-    agree (same (λ h. record { up = omega arith; slow = h }) (λ f. f.slow) (most x.w (x.v + x.d))) (follow_decides x.v x.w x.d)
+pub returns-else-v-w : goal.returns-else-v-w
+unfolding follow
+returns-else-v-w c = search rules

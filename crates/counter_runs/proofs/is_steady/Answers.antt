@@ -9,37 +9,13 @@ use Rattle.decide.proofs.Laws.{is_false, fails}
 use Rattle.knowledge.specs.Knowledge.{Follow}
 use Rattle.knowledge.specs.Run.{cell}
 use Rattle.knowledge.proofs.Runs.{follow_decides, steady_decides}
-use Rattle.counter_runs.proofs.Walk.{start, step, finish, fail, ended}
+use Rattle.counter_runs.proofs.Walk.{step, finish, fail, ended}
 use Rattle.counter_runs.proofs.is_steady.Goals as goal
-
-pub bounds-run-0 : goal.bounds-run-0
-bounds-run-0 c = omega arith
 
 pub returns-then-run-ne0 : goal.returns-then-run-ne0
 returns-then-run-ne0 c =
     let run = c.args.run.now in
     sym (is_false (steady_decides (cell run) (length run)) (λ s. c.if-run-ne0.true s.first))
-
-pub loop-p-init : goal.loop-p-init
-loop-p-init c =
-    let run = c.args.run.now in
-    let first : cell run 0 ≡ 0 = omega arith in
-    (omega arith, λ _. (sym first, start (cell run) first), λ l. absurd (let z : ⊥ = omega arith in z))
-
-pub overflow_add-p : goal.overflow_add-p
-overflow_add-p c = omega arith
-
-pub overflow_add-p-in-loop-p : goal.overflow_add-p-in-loop-p
-overflow_add-p-in-loop-p c = omega arith
-
-pub next_known-found-requires : goal.next_known-found-requires
-next_known-found-requires c = omega arith
-
-pub overflow_sub-q : goal.overflow_sub-q
-overflow_sub-q c = omega (arith, c.next_known-found.ensures.place.past)
-
-pub follows-requires : goal.follows-requires
-follows-requires c = omega arith
 
 pub returns-then-not-follows : goal.returns-then-not-follows
 returns-then-not-follows c =
@@ -59,9 +35,6 @@ returns-then-not-follows c =
     (fail f (length run) p q here.1 r.ensures.place c.if-q-run.true
     (λ w. bad (subst (λ (x : ℕ). Follow x r.result.number (q - p)) (sym here.0) (subst (λ (y : ℕ). Follow (f p) y (q - p)) (sym there) w)))))
 
-pub loop-p-smaller-else-not-follows : goal.loop-p-smaller-else-not-follows
-loop-p-smaller-else-not-follows c = let past = c.next_known-found.ensures.place.past in omega arith
-
 pub loop-p-preserved-else-not-follows : goal.loop-p-preserved-else-not-follows
 loop-p-preserved-else-not-follows c =
     let run = c.args.run.now in
@@ -80,9 +53,6 @@ loop-p-preserved-else-not-follows c =
       λ _. (there, step f (length run) p q here.1 r.ensures.place c.if-q-run.true nigh),
       λ h. absurd (let z : ⊥ = omega arith in z),
     )
-
-pub loop-p-smaller : goal.loop-p-smaller
-loop-p-smaller c = let past = c.next_known-found.ensures.place.past in omega arith
 
 pub loop-p-preserved : goal.loop-p-preserved
 loop-p-preserved c =

@@ -48,12 +48,6 @@ returns-then-here-lt-NONE c =
     (equal (f x.place) x.v))
     (may_decides f (length run) x.place x.v)
 
-pub previous_known-p-requires : goal.previous_known-p-requires
-previous_known-p-requires c =
-    let run = c.args.run.now in
-    let first = c.requires.1.first in
-    (not_first (cell run) c.args.place first c.if-here-lt-NONE.false, omega arith)
-
 pub returns-then-not-follows : goal.returns-then-not-follows
 returns-then-not-follows c =
     let g = c.follows in

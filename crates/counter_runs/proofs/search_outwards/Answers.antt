@@ -6,13 +6,6 @@ use Rattle.knowledge.specs.Run.{cell, Forth}
 use Rattle.counter_runs.proofs.Searching.{outwards}
 use Rattle.counter_runs.proofs.search_outwards.Goals as goal
 
-pub overflow_add-reads : goal.overflow_add-reads
-overflow_add-reads c =
-    let s = c.requires in
-    let b = c.previous_known-back.ensures.reads in
-    let f = c.next_known-forth.ensures.reads in
-    omega arith
-
 pub returns : goal.returns
 returns c m e =
     let x = c.args in

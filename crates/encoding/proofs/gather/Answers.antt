@@ -6,17 +6,8 @@ use Rattle.encoding.proofs.gather.Goals as goal
 pub loop-rest-init : goal.loop-rest-init
 loop-rest-init c = (c.ranges.named.fits, begin c.args.named c.args.values)
 
-pub overflow_shl-weight : goal.overflow_shl-weight
-overflow_shl-weight c = let l = c.loop-rest in let t = turn l.invariant.1 (omega arith) l.invariant.0 in t.place_in
-
-pub nonzero_div-out : goal.nonzero_div-out
-nonzero_div-out c = let l = c.loop-rest in let t = turn l.invariant.1 (omega arith) l.invariant.0 in t.weight_some
-
 pub overflow_shl-out : goal.overflow_shl-out
 overflow_shl-out c = let l = c.loop-rest in let t = turn l.invariant.1 (omega arith) l.invariant.0 in t.count_in
-
-pub overflow_mul-out : goal.overflow_mul-out
-overflow_mul-out c = let l = c.loop-rest in let t = turn l.invariant.1 (omega arith) l.invariant.0 in record { fits = omega (arith, t.fits) }
 
 pub overflow_add-out : goal.overflow_add-out
 overflow_add-out c = let l = c.loop-rest in let t = turn l.invariant.1 (omega arith) l.invariant.0 in record { fits = t.fits }
@@ -26,9 +17,6 @@ overflow_add-j c = let l = c.loop-rest in let t = turn l.invariant.1 (omega arit
 
 pub overflow_sub-rest : goal.overflow_sub-rest
 overflow_sub-rest c = let l = c.loop-rest in let t = turn l.invariant.1 (omega arith) l.invariant.0 in t.weight_in
-
-pub loop-rest-smaller : goal.loop-rest-smaller
-loop-rest-smaller c = let l = c.loop-rest in let t = turn l.invariant.1 (omega arith) l.invariant.0 in omega (arith, t.weight_some, t.weight_in)
 
 pub loop-rest-preserved : goal.loop-rest-preserved
 loop-rest-preserved c = let l = c.loop-rest in let t = turn l.invariant.1 (omega arith) l.invariant.0 in (omega (arith, l.invariant.0), t.next)

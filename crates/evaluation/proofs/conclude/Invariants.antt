@@ -1,12 +1,8 @@
 -- `evaluation::conclude` meets its contract. The invariant of its loop: the verdicts of the rules among the first i lines are written and counted.
 -- Assumes nothing.
-use Prim.Native.Nat.{◌-◌, ◌≤◌}
 use Rattle.evaluation.proofs.Concluding.{Concluded}
 use Rattle.evaluation.proofs.conclude.Given as goal
 
 abbrev pub invariant-loop-i : goal.invariant-loop-i
 invariant-loop-i l =
-    (l.i ≤ l.count) × Concluded l.policy l.points l.valuation l.initial.verdicts l.i l.verdicts l.total l.at
-
-abbrev pub decreases-loop-i : goal.decreases-loop-i
-decreases-loop-i l = l.count - l.i
+    Concluded l.policy l.points l.valuation l.initial.verdicts l.i l.verdicts l.total l.at

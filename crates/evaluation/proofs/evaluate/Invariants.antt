@@ -1,7 +1,6 @@
 -- `evaluation::evaluate` meets its contract. The invariant of its loop: the first i rows are their subformulas' values, and the rest is as it was. Assumes nothing.
 use mathlib.Core.Path.{◌≡◌}
-use Prim.Native.Nat.{◌-◌, ◌*◌, ◌≤◌}
-use lib.ListN.{length}
+use Prim.Native.Nat.{◌*◌}
 use Rattle.rows.specs.Over.{Over}
 use Rattle.knowledge.specs.Knowledge.{Knowledge}
 use Rattle.valuation.specs.Rows.{Points}
@@ -10,8 +9,4 @@ use Rattle.evaluation.proofs.evaluate.Given as goal
 
 abbrev pub invariant-loop-i : goal.invariant-loop-i
 invariant-loop-i l =
-    (l.i ≤ l.count) × (l.at ≡ l.i * l.minutes) × (length l.valuation ≡ length l.initial.valuation) × (length l.ranks ≡ 1024) × (length l.row ≡ 1024)
-    × ((k : Knowledge) → k.facts ≡ l.facts → Points l.policy.sizes k l.points → Over (cell l.policy k) 0 l.at l.initial.valuation l.valuation)
-
-abbrev pub decreases-loop-i : goal.decreases-loop-i
-decreases-loop-i l = l.count - l.i
+    (k : Knowledge) → k.facts ≡ l.facts → Points l.policy.sizes k l.points → Over (cell l.policy k) 0 (l.i * l.minutes) l.initial.valuation l.valuation

@@ -1,8 +1,7 @@
 -- `evaluation::verdict_row` meets its contract. The invariant of its loop: the cells before t are written, and the total is of what stands there.
 -- Assumes nothing.
 use mathlib.Core.Path.{◌≡◌}
-use Prim.Native.Nat.{◌-◌, ◌≤◌}
-use lib.ListN.{length, get_or, take}
+use lib.ListN.{get_or, take}
 use Rattle.rows.specs.Over.{Over}
 use Rattle.valuation.specs.Sheets.{standing}
 use Rattle.valuation.specs.Verdicts.{verdict_code}
@@ -10,8 +9,5 @@ use Rattle.evaluation.proofs.verdict_row.Given as goal
 
 abbrev pub invariant-loop-t : goal.invariant-loop-t
 invariant-loop-t l =
-    (l.t ≤ length l.initial.verdicts) × (length l.verdicts ≡ length l.initial.verdicts) × Over (λ s. verdict_code (get_or l.points s 0) (get_or l.row s 0)) 0 l.t l.initial.verdicts l.verdicts
+    Over (λ s. verdict_code (get_or l.points s 0) (get_or l.row s 0)) 0 l.t l.initial.verdicts l.verdicts
     × (l.total ≡ standing (take l.t l.verdicts))
-
-abbrev pub decreases-loop-t : goal.decreases-loop-t
-decreases-loop-t l = length l.initial.verdicts - l.t

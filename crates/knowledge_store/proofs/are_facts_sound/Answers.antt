@@ -1,74 +1,33 @@
--- `knowledge_store::are_facts_sound` meets its contract. The loop's invariant: the words of the first t minutes are sound. The measure is how
--- many minutes are left. Assumes nothing.
-use mathlib.Core.Path.{◌≡◌, refl, sym, ap, ◌∙◌}
-use Prim.Native.Nat.{ℕ, ◌+◌, ◌*◌, ◌^◌}
+-- `knowledge_store::are_facts_sound` meets its contract: each pair of words is a minute's. Assumes nothing.
+use Rattle.std.proofs.Common.{◌≡◌, ℕ, ◌+◌, ◌*◌, ◌^◌, ◌%◌, List, get_or, take, drop, ◌<◌, sym, ap, ap₂, ◌∙◌, arith, rules}
+use Rattle.std.proofs.Math.Seq.{get_or-take, get_or-drop}
+use Rattle.std.specs.Slice.Iter.{chunks_exact_size, chunks_exact_rest}
+use Rattle.std.specs.Iterator.Runs.{IsChunksExactRun}
 use native.Mathlib.Nat.{one-mul}
-use native.Mathlib.Omega.{arith}
-use lib.ListN.{get_or}
 use lib.Pow.{shl_exact}
-use Rattle.mtl.specs.Algebra.{two, all}
-use Rattle.decide.proofs.Laws.{each_fails, each_more}
 use Rattle.knowledge.specs.Knowledge.{word_sound}
+use Rattle.counter_runs.proofs.Chunks.{verdict}
 use Rattle.knowledge_store.proofs.are_facts_sound.Goals as goal
 
-pub overflow_shl-limit : goal.overflow_shl-limit
-overflow_shl-limit c = omega arith
-
-pub loop-t-init : goal.loop-t-init
-loop-t-init c = (omega arith, shl_exact 1 c.args.propositions 64 (omega arith) (omega arith) ∙ one-mul (2 ^ c.args.propositions), refl)
-
-pub overflow_mul-t : goal.overflow_mul-t
-overflow_mul-t c = omega arith
-
-pub offset_bounds-facts-t : goal.offset_bounds-facts-t
-offset_bounds-facts-t c = omega arith
-
-pub bounds-facts-t : goal.bounds-facts-t
-bounds-facts-t c = omega arith
-
-pub overflow_mul-t-in-loop-t : goal.overflow_mul-t-in-loop-t
-overflow_mul-t-in-loop-t c = omega arith
-
-pub overflow_add-t : goal.overflow_add-t
-overflow_add-t c = omega arith
-
-pub offset_bounds-facts-t-in-loop-t : goal.offset_bounds-facts-t-in-loop-t
-offset_bounds-facts-t-in-loop-t c = omega arith
-
-pub bounds-facts-t-in-loop-t : goal.bounds-facts-t-in-loop-t
-bounds-facts-t-in-loop-t c = omega arith
-
-pub is_word_sound-requires : goal.is_word_sound-requires
-is_word_sound-requires c = tt
-
-pub returns-then-not-is_word_sound : goal.returns-then-not-is_word_sound
-returns-then-not-is_word_sound c =
-    let f = c.is_word_sound in
-    let x = c.args in
-    sym
-    (each_fails x.minutes (λ i. word_sound x.propositions (get_or x.facts.now (2 * i) 0) (get_or x.facts.now (2 * i + 1) 0)) c.loop-t.t (omega arith)
-    (sym (f.ensures x.propositions c.loop-t.invariant.1) ∙ c.if-not-is_word_sound.true))
-
-pub overflow_add-t-in-loop-t : goal.overflow_add-t-in-loop-t
-overflow_add-t-in-loop-t c = omega arith
-
-pub loop-t-smaller : goal.loop-t-smaller
-loop-t-smaller c = omega arith
-
-pub loop-t-preserved : goal.loop-t-preserved
-loop-t-preserved c =
-    let f = c.is_word_sound in
-    let x = c.args in (
-      omega arith,
-      c.loop-t.invariant.1,
-      each_more c.loop-t.t (λ i. word_sound x.propositions (get_or x.facts.now (2 * i) 0) (get_or x.facts.now (2 * i + 1) 0)) c.loop-t.invariant.2
-          (sym (f.ensures x.propositions c.loop-t.invariant.1) ∙ c.if-not-is_word_sound.false),
-    )
+-- a cell of the k-th pair
+pair_cell : (l y : List ℕ) (k i j : ℕ) → y ≡ take 2 (drop (k * 2) l) → i < 2 → j ≡ k * 2 + i → get_or y i 0 ≡ get_or l j 0
+pair_cell l y k i j e h q =
+    ap (λ (xs : List ℕ). get_or xs i 0) e ∙ get_or-take 2 (drop (k * 2) l) i 0 h ∙ get_or-drop (k * 2) l i 0 ∙ ap (λ (n : ℕ). get_or l n 0) (sym q)
 
 pub returns : goal.returns
 returns c =
     let x = c.args in
-    let e : c.loop-t.t ≡ x.minutes = omega arith in
-    sym
-    (ap (λ (n : ℕ). all two 0 n (λ i. word_sound x.propositions (get_or x.facts.now (2 * i) 0) (get_or x.facts.now (2 * i + 1) 0))) (sym e)
-    ∙ c.loop-t.invariant.2)
+    let made = c.chunks_exact in
+    let run = c.all.ensures.runs in
+    let size : chunks_exact_size run.0.from ≡ 2 = ap chunks_exact_size run.1 ∙ made.ensures.size in
+    let rest : chunks_exact_rest run.0.from ≡ x.facts.now = ap chunks_exact_rest run.1 ∙ made.ensures.rest in
+    let chunks : IsChunksExactRun run.0 2 x.facts.now = rw (size, rest) at (made.ensures.runs run.0 run.0.seen (rw size (omega arith))) in
+    let limit : 1 * 2 ^ x.propositions % 2 ^ 64 ≡ 2 ^ x.propositions = shl_exact 1 x.propositions 64 (omega arith) (omega arith) ∙ one-mul (2 ^ x.propositions) in
+    verdict _ _ run.0 x.facts.now 2 x.minutes (omega arith) (omega arith) chunks (λ a b q called. search rules)
+    (λ t. word_sound x.propositions (get_or x.facts.now (2 * t) 0) (get_or x.facts.now (2 * t + 1) 0))
+    (λ k y b h e called.
+    let answer : (p : ℕ) → 1 * 2 ^ x.propositions % 2 ^ 64 ≡ 2 ^ p → b ≡ word_sound p (get_or y.now 0 0) (get_or y.now 1 0) = search rules in
+    answer x.propositions limit
+    ∙ ap₂ (word_sound x.propositions) (pair_cell x.facts.now y.now k 0 (2 * k) e (omega arith) (omega arith))
+    (pair_cell x.facts.now y.now k 1 (2 * k + 1) e (omega arith) (omega arith)))
+    c.all.result run.2

@@ -1,6 +1,4 @@
--- `knowledge_store::join` meets its contract. The loop's invariant: the cells from lo up to i are joined. The measure is what is left.
--- Assumes nothing.
-use Prim.Native.Nat.{◌-◌, ◌≤◌}
+-- `knowledge_store::join` meets its contract. The loop's invariant: the cells from lo up to i are joined. Assumes nothing.
 use mathlib.Core.Bool.{cond}
 use Rattle.kleene.specs.Truth.{unknown, true3}
 use Rattle.rows.specs.Over.{Over}
@@ -8,7 +6,4 @@ use Rattle.knowledge.specs.Run.{joined}
 use Rattle.knowledge_store.proofs.join.Given as goal
 
 abbrev pub invariant-loop-i : goal.invariant-loop-i
-invariant-loop-i l = (l.lo ≤ l.i) × (l.i ≤ l.hi) × Over (joined l.initial.row (λ _. cond l.full true3 unknown)) l.lo l.i l.initial.row l.row
-
-abbrev pub decreases-loop-i : goal.decreases-loop-i
-decreases-loop-i l = l.hi - l.i
+invariant-loop-i l = Over (joined l.initial.row (λ _. cond l.full true3 unknown)) l.lo l.i l.initial.row l.row

@@ -5,31 +5,12 @@ use Prim.Native.Nat.{ℕ, ◌-◌, min}
 use native.Mathlib.Omega.{arith}
 use lib.ListN.{length}
 use Rattle.rows.specs.Over.{Over}
-use Rattle.rows.proofs.Laws.{untouched}
 use Rattle.knowledge.specs.Knowledge.{says}
 use Rattle.knowledge.specs.Run.{cell, joined, told}
 use Rattle.knowledge.specs.Outwards.{full_gap}
 use Rattle.knowledge_store.proofs.Gap.{found_gap, each_minute}
 use Rattle.knowledge_store.proofs.Points.{codes_kept, stretch}
 use Rattle.knowledge_store.proofs.join_run.Goals as goal
-
-pub overflow_sub-minutes : goal.overflow_sub-minutes
-overflow_sub-minutes c = omega arith
-
-pub loop-minute-init : goal.loop-minute-init
-loop-minute-init c =
-    let run = c.args.run.now in
-    let row = c.args.row.now in
-    let m = length run - 1 in
-    let first = c.requires.2.first in (
-      c.requires.3,
-      omega arith,
-      λ _. omega arith,
-      subst (λ (n : ℕ). Over (joined row (told (cell run) m)) 0 n row row) (let z : 0 ≡ min 0 m = omega arith in z) (untouched _ 0 row),
-    )
-
-pub search_outwards-found-requires : goal.search_outwards-found-requires
-search_outwards-found-requires c = omega arith
 
 pub join_gap-requires : goal.join_gap-requires
 join_gap-requires c =
@@ -82,14 +63,3 @@ loop-minute-preserved c =
           g.1.answer m v.1
           ∙ each_minute f m found.before found.after g.1.known (rw v.1 g.1.ends) (rw v.1 c.requires.2) t (omega arith) (omega arith)),
     )
-
-pub returns : goal.returns
-returns c m e =
-    let run = c.args.run.now in
-    let row = c.args.row.now in
-    let l = c.loop-minute in
-    let v = l.invariant in
-    let same : length run - 1 ≡ m = omega arith in
-    let all : min l.minute m ≡ m = omega arith in
-    subst (λ (n : ℕ). Over (joined row (told (cell run) m)) 0 n row l.row) all
-    (subst (λ (k : ℕ). Over (joined row (told (cell run) k)) 0 (min l.minute k) row l.row) same v.3)

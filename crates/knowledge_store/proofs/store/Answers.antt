@@ -44,50 +44,14 @@ module _ (z : Sizes) (numbers facts : List ℕ) (long : Sized z (held numbers fa
       let f : Fits z (sent c (Alive t n)) = subst (λ (y : Event). Fits z (sent c y)) e fits in
       omega (arith, long.numbers, room c z.components (suc z.minutes) f.component_in, f.event_in)
 
-pub overflow_mul-at : goal.overflow_mul-at
-overflow_mul-at c =
-    let x = c.args in
-    omega (arith, room x.component x.sizes.components (suc x.sizes.minutes) c.requires.2.component_in)
-
-pub overflow_add-at-in-Observation : goal.overflow_add-at-in-Observation
-overflow_add-at-in-Observation c =
-    let x = c.args in
-    omega (arith, observation_in x.sizes x.numbers.now x.facts.now c.requires.1 x.component _ c.requires.2 _ _ _ _ c.in-Observation.is)
-
-pub store_numbers-requires : goal.store_numbers-requires
-store_numbers-requires c =
-    let x = c.args in
-    let h = observation_in x.sizes x.numbers.now x.facts.now c.requires.1 x.component _ c.requires.2 _ _ _ _ c.in-Observation.is in
-    (omega arith, omega arith)
-
-pub store_facts-requires : goal.store_facts-requires
-store_facts-requires c =
-    let x = c.args in
-    omega (arith, observation_in x.sizes x.numbers.now x.facts.now c.requires.1 x.component _ c.requires.2 _ _ _ _ c.in-Observation.is)
-
-pub overflow_add-numbers : goal.overflow_add-numbers
-overflow_add-numbers c =
-    let x = c.args in
-    omega (arith, alive_in x.sizes x.numbers.now x.facts.now c.requires.1 x.component _ c.requires.2 _ _ c.in-Alive.is)
-
-pub offset_bounds-numbers-at : goal.offset_bounds-numbers-at
-offset_bounds-numbers-at c =
-    let x = c.args in
-    omega (arith, alive_in x.sizes x.numbers.now x.facts.now c.requires.1 x.component _ c.requires.2 _ _ c.in-Alive.is)
-
-pub bounds-numbers-at : goal.bounds-numbers-at
-bounds-numbers-at c =
-    let x = c.args in
-    omega (arith, alive_in x.sizes x.numbers.now x.facts.now c.requires.1 x.component _ c.requires.2 _ _ c.in-Alive.is)
-
 pub returns-in-Observation : goal.returns-in-Observation
 unfolding stored
 returns-in-Observation c =
     let x = c.args in
-    let after : Event → List ℕ = λ v. (stored x.sizes (held x.numbers.now x.facts.now) (sent x.component v)).numbers in
-    let noted : Event → List ℕ = λ v. (stored x.sizes (held x.numbers.now x.facts.now) (sent x.component v)).facts in record {
+    let after : Event → List ℕ = λ v. (stored x.sizes (held x.numbers.now x.facts.now) (sent x.message.component v)).numbers in
+    let noted : Event → List ℕ = λ v. (stored x.sizes (held x.numbers.now x.facts.now) (sent x.message.component v)).facts in record {
       stores_numbers = c.store_numbers.ensures
-          ∙ observation_numbers x.sizes x.numbers.now x.facts.now x.component c.in-Observation.minute c.in-Observation.number c.in-Observation.named c.in-Observation.values
+          ∙ observation_numbers x.sizes x.numbers.now x.facts.now x.message.component c.in-Observation.minute c.in-Observation.number c.in-Observation.named c.in-Observation.values
           ∙ ap after (sym c.in-Observation.is);
       stores_facts = c.store_facts.ensures ∙ ap noted (sym c.in-Observation.is);
     }
@@ -96,8 +60,8 @@ pub returns-in-Alive : goal.returns-in-Alive
 unfolding stored
 returns-in-Alive c =
     let x = c.args in
-    let after : Event → List ℕ = λ v. (stored x.sizes (held x.numbers.now x.facts.now) (sent x.component v)).numbers in
-    let noted : Event → List ℕ = λ v. (stored x.sizes (held x.numbers.now x.facts.now) (sent x.component v)).facts in record {
-      stores_numbers = alive_numbers x.sizes x.numbers.now x.facts.now x.component _ _ ∙ ap after (sym c.in-Alive.is);
+    let after : Event → List ℕ = λ v. (stored x.sizes (held x.numbers.now x.facts.now) (sent x.message.component v)).numbers in
+    let noted : Event → List ℕ = λ v. (stored x.sizes (held x.numbers.now x.facts.now) (sent x.message.component v)).facts in record {
+      stores_numbers = alive_numbers x.sizes x.numbers.now x.facts.now x.message.component _ _ ∙ ap after (sym c.in-Alive.is);
       stores_facts = ap noted (sym c.in-Alive.is);
     }

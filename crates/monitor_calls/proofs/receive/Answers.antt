@@ -1,25 +1,22 @@
 -- Where the checks of the record refuse, nothing is written; where they pass, the message is taken or refused.
 -- Assumes nothing.
-use Rattle.origin.specs.Origin.{stamped}
-use Rattle.monitor.specs.State.{lent}
+use Rattle.std.proofs.Common.{sym, ◌∙◌}
+use Rattle.monitor.specs.State.{given}
 use Rattle.monitor_checks.proofs.Checking.{record_read, record_sized, record_sound}
 use Rattle.monitor_calls.proofs.Calls.{receive_refused, receive_taken}
 use Rattle.monitor_calls.proofs.receive.Goals as goal
 
+pub returns-in-Err : goal.returns-in-Err
+returns-in-Err c = receive_refused c.args.policy.now (given c.args.buffers) c.args.message.now _ (sym c.in-Err.is ∙ c.check_record.ensures)
+
 pub take_message-requires : goal.take_message-requires
 take_message-requires c =
-    let a = c.args in
-    let x = lent a.numbers.now a.facts.now a.valuation.now a.verdicts.now (stamped a.origin.now a.extent.now) in
-    let e = c.check_record-checked.ensures in
-    let t = c.in-Accepted.is in
-    ((record_read a.policy.now x _ e t).proper, (record_sized a.policy.now x _ e t).sheets, record_sound a.policy.now x _ e t)
+    let s = c.args.policy.now in
+    let x = given c.args.buffers in
+    let e = sym c.in-Ok.is ∙ c.check_record.ensures in
+    ((record_read s x _ e).proper, (record_sized s x _ e).sheets, record_sound s x _ e)
 
-pub returns-in-Refused : goal.returns-in-Refused
-returns-in-Refused c =
-    let a = c.args in
-    receive_refused a.policy.now (lent a.numbers.now a.facts.now a.valuation.now a.verdicts.now (stamped a.origin.now a.extent.now)) a.message.now _ c.check_record-checked.ensures _ c.in-Refused.is
-
-pub returns-in-Accepted : goal.returns-in-Accepted
-returns-in-Accepted c =
-    let a = c.args in
-    receive_taken a.policy.now (lent a.numbers.now a.facts.now a.valuation.now a.verdicts.now (stamped a.origin.now a.extent.now)) a.message.now _ c.check_record-checked.ensures _ c.in-Accepted.is (c.take_message.ensures (stamped a.origin.now a.extent.now))
+pub returns : goal.returns
+returns c =
+    let x = given c.args.buffers in
+    receive_taken c.args.policy.now x c.args.message.now _ (sym c.in-Ok.is ∙ c.check_record.ensures) _ (c.take_message.ensures x.origin)

@@ -1,25 +1,23 @@
 -- Where the checks of the record refuse, nothing is written; where they pass, the packet's messages are taken.
 -- Assumes nothing.
-use Rattle.origin.specs.Origin.{stamped}
-use Rattle.monitor.specs.State.{lent}
+use Rattle.std.proofs.Common.{sym, ◌∙◌}
+use Rattle.monitor.specs.State.{given}
 use Rattle.monitor_checks.proofs.Checking.{record_read, record_sized, record_sound}
 use Rattle.monitor_calls.proofs.Packets.{packet_refused, packet_taken}
 use Rattle.monitor_calls.proofs.receive_packet.Goals as goal
 
+pub returns-in-Err : goal.returns-in-Err
+returns-in-Err c =
+    packet_refused c.args.policy.now (given c.args.buffers) c.args.packet.now _ (sym c.in-Err.is ∙ c.check_record.ensures) _ c.place-place.ensures
+
 pub take_packet-requires : goal.take_packet-requires
 take_packet-requires c =
-    let a = c.args in
-    let x = lent a.numbers.now a.facts.now a.valuation.now a.verdicts.now (stamped a.origin.now a.extent.now) in
-    let e = c.check_record-checked.ensures in
-    let t = c.in-Accepted.is in
-    ((record_read a.policy.now x _ e t).proper, (record_sized a.policy.now x _ e t).sheets, record_sound a.policy.now x _ e t)
+    let s = c.args.policy.now in
+    let x = given c.args.buffers in
+    let e = sym c.in-Ok.is ∙ c.check_record.ensures in
+    ((record_read s x _ e).proper, (record_sized s x _ e).sheets, record_sound s x _ e)
 
-pub returns-in-Refused : goal.returns-in-Refused
-returns-in-Refused c =
-    let a = c.args in
-    packet_refused a.policy.now (lent a.numbers.now a.facts.now a.valuation.now a.verdicts.now (stamped a.origin.now a.extent.now)) a.packet.now _ c.check_record-checked.ensures _ c.in-Refused.is _ c.place.ensures
-
-pub returns-in-Accepted : goal.returns-in-Accepted
-returns-in-Accepted c =
-    let a = c.args in
-    packet_taken a.policy.now (lent a.numbers.now a.facts.now a.valuation.now a.verdicts.now (stamped a.origin.now a.extent.now)) a.packet.now _ c.check_record-checked.ensures _ c.in-Accepted.is (c.take_packet.ensures (stamped a.origin.now a.extent.now))
+pub returns : goal.returns
+returns c =
+    let x = given c.args.buffers in
+    packet_taken c.args.policy.now x c.args.packet.now _ (sym c.in-Ok.is ∙ c.check_record.ensures) _ (c.take_packet.ensures x.origin)

@@ -18,8 +18,8 @@ slice_bounds-first_step-count c = omega (arith, c.loop-at.invariant.1)
 pub slice_bounds-first_step-start : goal.slice_bounds-first_step-start
 slice_bounds-first_step-start c = omega (arith, c.loop-at.invariant.1)
 
-pub store_message-stored-requires : goal.store_message-stored-requires
-store_message-stored-requires c =
+pub store_read-requires : goal.store_read-requires
+store_read-requires c =
     let a = c.args in
     let l = c.loop-at in
     (c.requires.0, l.invariant.2, l.invariant.3, decoded_ranged a.sizes a.packet.now (held a.numbers.now a.facts.now) (held l.numbers l.facts) l.taken l.at c.loop-at-test.true l.invariant c.requires.0 _ c.first_step-first.ensures)
@@ -28,26 +28,26 @@ pub place_in_packet-place-requires : goal.place_in_packet-place-requires
 place_in_packet-place-requires c =
     let a = c.args in
     let l = c.loop-at in
-    let w = place_within a.sizes a.packet.now (held a.numbers.now a.facts.now) (held l.numbers l.facts) l.taken l.at c.loop-at-test.true l.invariant c.requires.0 _ c.first_step-first.ensures _ _ _ c.store_message-stored.ensures _ c.in-Refused.is in
+    let w = place_within a.sizes a.packet.now (held a.numbers.now a.facts.now) (held l.numbers l.facts) l.taken l.at c.loop-at-test.true l.invariant c.requires.0 _ c.first_step-first.ensures _ _ _ c.store_read.ensures _ c.in-Err.is in
     omega (arith, w)
 
-pub shape_of-numbers-in-Refused : goal.shape_of-numbers-in-Refused
-shape_of-numbers-in-Refused c =
+pub shape_of-numbers-in-Err : goal.shape_of-numbers-in-Err
+shape_of-numbers-in-Err c =
     let a = c.args in
     let l = c.loop-at in
     search rules
 
-pub shape_of-facts-in-Refused : goal.shape_of-facts-in-Refused
-shape_of-facts-in-Refused c =
+pub shape_of-facts-in-Err : goal.shape_of-facts-in-Err
+shape_of-facts-in-Err c =
     let a = c.args in
     let l = c.loop-at in
     search rules
 
-pub returns-in-Refused : goal.returns-in-Refused
-returns-in-Refused c =
+pub returns-in-Err : goal.returns-in-Err
+returns-in-Err c =
     let a = c.args in
     let l = c.loop-at in
-    turned_down a.sizes a.packet.now (held a.numbers.now a.facts.now) (held l.numbers l.facts) l.taken l.at c.loop-at-test.true l.invariant c.requires.0 _ c.first_step-first.ensures _ _ _ c.store_message-stored.ensures _ c.in-Refused.is _ c.place_in_packet-place.ensures
+    turned_down a.sizes a.packet.now (held a.numbers.now a.facts.now) (held l.numbers l.facts) l.taken l.at c.loop-at-test.true l.invariant c.requires.0 _ c.first_step-first.ensures _ _ _ c.store_read.ensures _ c.in-Err.is _ c.place_in_packet-place.ensures
 
 pub overflow_sub-at : goal.overflow_sub-at
 overflow_sub-at c =
@@ -72,7 +72,7 @@ pub loop-at-preserved : goal.loop-at-preserved
 loop-at-preserved c =
     let a = c.args in
     let l = c.loop-at in
-    goes_on a.sizes a.packet.now (held a.numbers.now a.facts.now) (held l.numbers l.facts) l.taken l.at c.loop-at-test.true l.invariant c.requires.0 _ c.first_step-first.ensures _ _ _ c.store_message-stored.ensures c.in_default.is
+    goes_on a.sizes a.packet.now (held a.numbers.now a.facts.now) (held l.numbers l.facts) l.taken l.at c.loop-at-test.true l.invariant c.requires.0 _ c.first_step-first.ensures _ _ _ c.store_read.ensures c.in_default.is
 
 pub shape_of-numbers : goal.shape_of-numbers
 shape_of-numbers c = let l = c.loop-at in l.invariant.2.numbers ∙ sym c.requires.1.numbers

@@ -1,8 +1,8 @@
 -- Each check that fails gives its refusal, and where all pass the place is in the sheet.
 -- Assumes nothing.
+use Rattle.std.specs.Prelude.{Ok}
 use mathlib.Core.Path.{ap, ◌∙◌}
 use native.Mathlib.Omega.{arith}
-use Rattle.monitor.specs.declared.Look.TheVariants.{Shows}
 use Rattle.monitor_lookup.proofs.Looking.{sheet_small, row_small, wrong_size, no_rule, no_minute, there, within}
 use Rattle.monitor_lookup.proofs.verdict_at.Goals as goal
 
@@ -44,4 +44,4 @@ bounds-verdicts-rule c =
 pub returns : goal.returns
 returns c =
     let a = c.args in
-    ap Shows c.verdict_of.ensures ∙ there a.policy a.verdicts.now a.rule a.minute c.if-verdicts-rules.false c.if-rules-rule.false c.if-minutes-minute.false
+    ap Ok c.from.ensures ∙ there a.policy a.verdicts.now a.rule a.minute c.if-verdicts-rules.false c.if-rules-rule.false c.if-minutes-minute.false

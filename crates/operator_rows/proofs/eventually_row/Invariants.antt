@@ -2,7 +2,7 @@
 -- on are noted. The measure is t. Assumes nothing.
 use mathlib.Core.Path.{◌≡◌}
 use mathlib.Core.Bool.{Bool}
-use Prim.Native.Nat.{ℕ, ◌+◌, ◌≤◌}
+use Prim.Native.Nat.{ℕ, ◌+◌}
 use lib.ListN.{length}
 use Rattle.kleene.specs.Truth.{Truth, code_of}
 use Rattle.kleene.specs.Tests.{literal}
@@ -18,9 +18,6 @@ of w negated τ β lower upper s = code_of (literal negated (until three w τ β
 
 abbrev pub invariant-loop-t : goal.invariant-loop-t
 invariant-loop-t l =
-    (l.t ≤ length l.points) × (length l.row ≡ 1024)
+    (length l.row ≡ 1024)
     × ((w : World Truth) (α τ β : ℕ → Truth) → Shows l.points (point three w) → Shows l.operand α → Unbroken (length l.points) l.negated α τ β
-    → Firsts (begun (point three w) β) (l.t + l.lower) l.begins × Over (of w l.negated τ β l.lower l.upper) l.t (length l.points) l.initial.row l.row)
-
-abbrev pub decreases-loop-t : goal.decreases-loop-t
-decreases-loop-t l = l.t
+    → Firsts (begun (point three w) β) (l.t + l.interval.lower) l.begins × Over (of w l.negated τ β l.interval.lower l.interval.upper) l.t (length l.points) l.initial.row l.row)

@@ -2,7 +2,7 @@
 -- The measure is what is left of the minutes. Assumes nothing.
 use mathlib.Core.Path.{◌≡◌}
 use mathlib.Core.Bool.{Bool}
-use Prim.Native.Nat.{ℕ, ◌-◌, ◌≤◌}
+use Prim.Native.Nat.{ℕ, ◌-◌}
 use lib.ListN.{length}
 use Rattle.kleene.specs.Truth.{Truth, code_of}
 use Rattle.kleene.specs.Tests.{literal}
@@ -18,9 +18,6 @@ of w negated τ β lower upper s = code_of (literal negated (since three w τ β
 
 abbrev pub invariant-loop-t : goal.invariant-loop-t
 invariant-loop-t l =
-    (l.t ≤ length l.points) × (length l.row ≡ 1024) × (l.start ≡ l.t - l.upper)
+    (length l.row ≡ 1024) × (l.start ≡ l.t - l.interval.upper)
     × ((w : World Truth) (α τ β : ℕ → Truth) → Shows l.points (point three w) → Shows l.operand α → Unbroken (length l.points) l.negated α τ β
-    → Lasts (begun (point three w) β) (l.t - l.lower) l.begins × Over (of w l.negated τ β l.lower l.upper) 0 l.t l.initial.row l.row)
-
-abbrev pub decreases-loop-t : goal.decreases-loop-t
-decreases-loop-t l = length l.points - l.t
+    → Lasts (begun (point three w) β) (l.t - l.interval.lower) l.begins × Over (of w l.negated τ β l.interval.lower l.interval.upper) 0 l.t l.initial.row l.row)

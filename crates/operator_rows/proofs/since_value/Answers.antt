@@ -7,6 +7,6 @@ use Rattle.operator_rows.proofs.since_value.Goals as goal
 
 pub returns : goal.returns
 returns c w α β lower upper t s A B =
-    c.code.ensures (since three w α β lower upper t)
+    c.signed_code.ensures (since three w α β lower upper t)
     (since_test w α β 2 (omega arith) (omega arith) lower upper t _ _ _ s A.sure B.may)
     (since_test w α β 1 (omega arith) (omega arith) lower upper t _ _ _ s A.may B.sure)

@@ -7,6 +7,6 @@ use Rattle.operator_rows.proofs.until_value.Goals as goal
 
 pub returns : goal.returns
 returns c w α β lower upper t s near A B =
-    c.code.ensures (until three w α β lower upper t)
+    c.signed_code.ensures (until three w α β lower upper t)
     (until_test w α β 2 (omega arith) (omega arith) lower upper t _ _ _ s near A.sure B.may)
     (until_test w α β 1 (omega arith) (omega arith) lower upper t _ _ _ s near A.may B.sure)

@@ -1,20 +1,14 @@
--- Invariant: the lines so far are good. Assumes nothing.
-use native.Mathlib.Omega.{arith}
-use mathlib.Core.Path.{◌≡◌, refl, sym, ◌∙◌}
-use Rattle.policy.specs.Text.{lines_good}
-use Rattle.policy_codec.proofs.Line.{both}
-use Rattle.policy_codec.proofs.Writing.{good_more}
+-- The chain asks each line with its number (`Chains`). Assumes nothing.
+use Rattle.std.proofs.Common.{rules, tests, sym, ◌∙◌}
+use Rattle.std.proofs.lemmas.Iterator.{YieldsList-from_slice}
+use Rattle.std.proofs.lemmas.Iterator.Consumers.{YieldsList-from_enumerate}
+use Rattle.std.proofs.lemmas.Iterator.Search.{all_from_yields_List}
+use Rattle.policy_codec.proofs.Chains.{numbered_good, all_good}
 use Rattle.policy_codec.proofs.lines_good.Goals as goal
 
-pub loop-i-init : goal.loop-i-init
-unfolding lines_good
-loop-i-init c = (omega arith, refl)
-
-pub bounds-lines-i : goal.bounds-lines-i
-bounds-lines-i c = omega (arith, c.requires)
-
-pub loop-i-preserved : goal.loop-i-preserved
-loop-i-preserved c = (omega (arith, c.loop-i-test.true), both c.loop-i.invariant.1 c.line_good-good.ensures ∙ sym (good_more _ _ _))
-
 pub returns : goal.returns
-returns c = let e : c.loop-i.i ≡ c.args.count = omega (arith, c.loop-i-test.false, c.loop-i.invariant.0) in rw (c.loop-i.invariant.1, e)
+returns c =
+    let lines = c.args.lines.now in
+    let m = c.args.propositions in
+    all_from_yields_List (numbered_good m) _ _ _ c.all.ensures.ran (YieldsList-from_enumerate (YieldsList-from_slice lines cc) cc) (λ x b q k. search (rules, tests))
+    ∙ sym (all_good lines m)

@@ -1,10 +1,6 @@
 -- Invariant: the first i lines are accepted and read (`UpTo`). A line that fails refuses all, since the answer of the lines keeps its first refusal. Assumes nothing.
 use Rattle.policy_codec.proofs.Lines.{UpTo}
-use Prim.Native.Nat.{◌-◌, ◌≤◌}
 use Rattle.policy_codec.proofs.scan.Given as goal
 
 abbrev pub invariant-loop-i : goal.invariant-loop-i
-invariant-loop-i l = (l.i ≤ l.count) × UpTo l.s l.i l.subformulas l.rules l.at
-
-abbrev pub decreases-loop-i : goal.decreases-loop-i
-decreases-loop-i l = l.count - l.i
+invariant-loop-i l = UpTo l.s l.i l.subformulas l.rules l.at

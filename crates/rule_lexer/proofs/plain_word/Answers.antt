@@ -1,19 +1,10 @@
 -- The word stands there, or part of it. Assumes nothing.
-use Rattle.rule_text.proofs.Terms.{word_cut, word_done}
-use native.Mathlib.Omega.{arith}
+use Rattle.std.proofs.lemmas.Result.{err_from_is_err_and}
+use Rattle.rule_text.proofs.Terms.{word_refused, word_done}
 use Rattle.rule_lexer.proofs.plain_word.Goals as goal
 
-pub matching-n-requires : goal.matching-n-requires
-matching-n-requires c = c.requires
-
-pub overflow_add-result : goal.overflow_add-result
-overflow_add-result c = omega (arith, c.matching-n.ensures.inside)
-
-pub returns-then-n-rest : goal.returns-then-n-rest
-returns-then-n-rest c = word_cut _ _ _ _ _ c.matching-n.ensures c.if-n-rest.true
-
-pub overflow_add-result-2 : goal.overflow_add-result-2
-overflow_add-result-2 c = omega (arith, c.matching-n.ensures.inside)
+pub returns-in_err-end : goal.returns-in_err-end
+returns-in_err-end c = let p = err_from_is_err_and c.from_residual.result c.from_residual.ensures.1 in rw (p.1, p.2) (word_refused _ _ _ _ _ c.word_at.ensures _ c.in_err-end.was)
 
 pub returns : goal.returns
-returns c = word_done _ _ _ _ _ c.matching-n.ensures c.if-n-rest.false
+returns c = word_done _ _ _ _ _ c.word_at.ensures _ c.in_ok-end.was

@@ -1,19 +1,19 @@
 -- Each return is a law of `Writing`. Assumes nothing.
-use mathlib.Core.Path.{refl, sym, ◌∙◌}
-use Rattle.rule_text.proofs.Writing.{sizes_small, compiled_bad, compiled_refused, read_count, compiled_read}
+use Rattle.std.proofs.Common.{sym, ◌∙◌}
+use Rattle.std.proofs.lemmas.Result.{err_from_is_err_and}
+use Rattle.rule_text.proofs.Writing.{compiled_bad, compiled_refused, read_count, compiled_read, encoded_with}
 use Rattle.rule_parser.proofs.compile.Goals as goal
 
 pub returns-then-not-heading_good : goal.returns-then-not-heading_good
 returns-then-not-heading_good c = compiled_bad _ _ _ _ _ (sym c.heading_good.ensures ∙ c.if-not-heading_good.true)
 
-pub rule-read-requires : goal.rule-read-requires
-rule-read-requires c = (refl, sizes_small c.args.propositions c.args.components c.args.minutes (sym c.heading_good.ensures ∙ c.if-not-heading_good.false))
+pub rule_lines-requires : goal.rule_lines-requires
+rule_lines-requires c = read_count _ _ _ _ _ c.rule.ensures c.in_ok-end.was
 
-pub write_rule-requires : goal.write_rule-requires
-write_rule-requires c = read_count _ _ _ _ _ c.rule-read.ensures c.in-Read.is
+pub returns-in_err-end : goal.returns-in_err-end
+returns-in_err-end c =
+    let p = err_from_is_err_and c.from_residual.result c.from_residual.ensures.1 in
+    rw (p.1, p.2) (compiled_refused _ _ _ _ _ _ _ _ (sym c.heading_good.ensures ∙ c.if-not-heading_good.false) c.rule.ensures c.in_err-end.was)
 
-pub returns-in-Refused : goal.returns-in-Refused
-returns-in-Refused c = compiled_refused _ _ _ _ _ _ _ _ (sym c.heading_good.ensures ∙ c.if-not-heading_good.false) c.rule-read.ensures c.in-Refused.is
-
-pub returns-in-Read : goal.returns-in-Read
-returns-in-Read c = compiled_read _ _ _ _ _ _ _ _ c.rule-read.ensures c.in-Read.is _ (sym c.heading_good.ensures ∙ c.if-not-heading_good.false) c.write_rule.ensures
+pub returns : goal.returns
+returns c = compiled_read _ _ _ _ _ _ _ _ c.rule.ensures c.in_ok-end.was _ (sym c.heading_good.ensures ∙ c.if-not-heading_good.false) (encoded_with _ _ _ _ _ _ _ _ c.rule_lines.ensures c.encode.ensures)

@@ -1,19 +1,17 @@
--- One digit more a turn, of both: whether all bytes are digits, and the value. Assumes nothing.
-use mathlib.Core.Path.{refl, ap}
-use mathlib.Core.Bool.{Bool, ◌&&◌}
-use lib.Dec.{ltb}
-use lib.ListN.{length}
-use native.Mathlib.Omega.{arith}
-use Rattle.compile_rule.proofs.Choices.{run_more, run_whole}
-use Rattle.compile_rule.specs.Arguments.{with_digit, all_digits}
+-- The test and the fold are those of the definition. Assumes nothing.
+use Rattle.std.proofs.Common.{◌≡◌, rules}
+use Rattle.std.specs.List.{fold, list_all}
+use Rattle.std.proofs.lemmas.Iterator.{YieldsList-from_slice}
+use Rattle.std.proofs.lemmas.Iterator.Search.{all_from_yields_List}
+use Rattle.compile_rule.specs.Choices.{digit}
+use Rattle.compile_rule.specs.Arguments.{with_digit}
 use Rattle.compile_rule.proofs.Numbered.{numbered}
 use Rattle.compile_rule.proofs.arguments.number.Goals as goal
 
-pub loop-i-init : goal.loop-i-init
-loop-i-init c = (omega arith, omega arith, refl, refl)
-
-pub loop-i-preserved : goal.loop-i-preserved
-loop-i-preserved c = (omega arith, omega (arith, c.with_digit-value.ensures.1), run_more all_digits (ltb 0 (length c.args.digits.now)) c.args.digits.now c.loop-i.i c.loop-i.whole _ (omega arith) c.loop-i.invariant.2 (ap (λ (d : Bool). c.loop-i.whole && d) c.is_digit-whole.ensures), run_more with_digit 0 c.args.digits.now c.loop-i.i c.loop-i.value _ (omega arith) c.loop-i.invariant.3 c.with_digit-value.ensures.0)
-
 pub returns : goal.returns
-returns c = numbered c.args.digits.now c.loop-i.whole c.loop-i.value (run_whole all_digits (ltb 0 (length c.args.digits.now)) c.args.digits.now c.loop-i.i c.loop-i.whole (omega arith) c.loop-i.invariant.2) (run_whole with_digit 0 c.args.digits.now c.loop-i.i c.loop-i.value (omega arith) c.loop-i.invariant.3)
+unfolding digit
+returns c =
+    let digits = c.args.digits.now in
+    let value : c.fold-value.result ≡ fold with_digit 0 digits = search rules in
+    let whole : c.all.result ≡ list_all digit digits = all_from_yields_List digit _ _ _ c.all.ensures.ran (YieldsList-from_slice digits cc) (λ x b q k. search rules) in
+    rw (c.then_some.ensures, c.is_empty.ensures, value, whole) (numbered digits)

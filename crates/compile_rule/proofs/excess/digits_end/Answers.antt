@@ -1,18 +1,13 @@
--- The end only goes up, past digits alone, and stops where no digit is. Assumes nothing.
-use mathlib.Core.Path.{sym, ◌∙◌}
-use native.Mathlib.Omega.{arith}
-use Rattle.compile_rule.proofs.Choices.{digit_past}
-use Rattle.compile_rule.proofs.Words.{digits_more}
+-- The first byte that is no digit is where `position` finds it, or the bytes' end. Assumes nothing.
+use Rattle.std.proofs.Common.{◌≡◌, true, false, rules}
+use Rattle.std.proofs.lemmas.Iterator.{IsFirst-from_position, YieldsList-from_slice}
+use Rattle.compile_rule.specs.Choices.{digit}
+use Rattle.compile_rule.proofs.Words.{digits_stop}
 use Rattle.compile_rule.proofs.excess.digits_end.Goals as goal
 
-pub loop-end-init : goal.loop-end-init
-loop-end-init c = (omega arith, omega arith, λ k p q. absurd (omega arith))
-
-pub loop-end-preserved : goal.loop-end-preserved
-loop-end-preserved c = (omega arith, omega arith, digits_more c.args.text.now c.args.at c.loop-end.end c.loop-end.invariant.2 (sym c.is_digit.ensures ∙ c.if-is_digit.true))
-
-pub returns-else-is_digit : goal.returns-else-is_digit
-returns-else-is_digit c = record { from = omega arith; inside = omega arith; digits = c.loop-end.invariant.2; no_more = sym c.is_digit.ensures ∙ c.if-is_digit.false }
-
-pub returns-after-loop-end : goal.returns-after-loop-end
-returns-after-loop-end c = record { from = omega arith; inside = omega arith; digits = c.loop-end.invariant.2; no_more = digit_past c.args.text.now c.loop-end.end (omega arith) }
+pub returns : goal.returns
+unfolding digit
+returns c =
+    let text = c.args.text.now in
+    let first = IsFirst-from_position _ _ _ (λ x. digit x ≡ false) (λ x. digit x ≡ true) c.position-end.ensures.ran (YieldsList-from_slice text cc) (λ x q k. search rules) (λ x q k. search rules) in
+    rw c.unwrap_or.ensures (digits_stop text c.position-end.result first)

@@ -1,7 +1,5 @@
 -- The place stays within the buffer, whose length stays, and each turn reads at least one byte. The measure is the room that is left. Assumes nothing.
-use Prim.Native.Nat.{◌-◌, ◌≤◌}
-use mathlib.Core.Path.{◌≡◌}
-use lib.ListN.{length}
+use Rattle.std.proofs.Common.{◌≡◌, ◌-◌, ◌≤◌, length}
 use Rattle.compile_rule.proofs.input.fill.Given as goal
 
 abbrev pub invariant-loop-end : goal.invariant-loop-end

@@ -1,20 +1,12 @@
--- By the length and the last two bytes. Assumes nothing.
-use native.Mathlib.Omega.{arith}
-use Rattle.compile_rule.specs.Line.{whole}
-use Rattle.compile_rule.proofs.Line.{empty, alone, ended, returned}
+-- What `strip_suffix` tests and leaves is a text and its line end. Assumes nothing.
+use Rattle.compile_rule.proofs.Line.{kept, stripped}
 use Rattle.compile_rule.proofs.input.without_newline.Goals as goal
 
-pub returns-then-n-lt1 : goal.returns-then-n-lt1
-returns-then-n-lt1 c = (omega arith, empty _ c.if-n-lt1.true)
+pub returns-in-Some : goal.returns-in-Some
+returns-in-Some c =
+    let line = c.in-Some.ensures.cases in
+    let rest = stripped c.args.text.now c.in-Some.line c.strip_suffix-in-Some.result line.0 (record { is = line.1; less = line.2 }) c.strip_suffix-in-Some.ensures.cases in
+    rw c.unwrap_or.ensures rest
 
-pub returns-then-text-n-ne10 : goal.returns-then-text-n-ne10
-returns-then-text-n-ne10 c = (omega arith, whole c.if-text-n-ne10.true)
-
-pub returns-then-n-lt2 : goal.returns-then-n-lt2
-returns-then-n-lt2 c = (omega arith, alone _ (omega arith) c.if-n-lt2.true c.if-text-n-ne10.false)
-
-pub returns-then-text-n-eq13 : goal.returns-then-text-n-eq13
-returns-then-text-n-eq13 c = (omega arith, returned _ (omega arith) c.if-text-n-ne10.false c.if-text-n-eq13.true)
-
-pub returns : goal.returns
-returns c = (omega arith, ended _ (omega arith) c.if-text-n-ne10.false c.if-text-n-eq13.false)
+pub returns-in-None : goal.returns-in-None
+returns-in-None c = kept c.args.text.now c.in-None.ensures.cases
