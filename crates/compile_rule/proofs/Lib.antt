@@ -1,3 +1,4 @@
+pub mod Begun
 pub mod Choices
 pub mod Examples
 pub mod Line

@@ -12,6 +12,32 @@ use Rattle.std.proofs.Common.{Bor, Option, None, Some, take_all}
 use Rattle.compile_rule.proofs.Choices.{past}
 use Rattle.compile_rule.specs.Line.{Line, both, newline, whole}
 
+-- the front that is the text, by the last two bytes
+module _ (typed : List ℕ) where
+  abbrev at : ℕ → ℕ
+  at k = get_or typed k 0
+
+  pub empty : length typed < 1 → Line typed (length typed)
+  empty h = whole λ e. omega (arith, e, past typed (length typed - 1) (omega arith))
+
+  pub alone : 1 ≤ length typed → length typed < 2 → at (length typed - 1) ≡ 10 → Line typed (length typed - 1)
+  alone p h e = newline (length typed - 1) (omega arith) e λ f. omega (arith, f, e, ap at (same (length typed) p h))
+    where
+      same : (n : ℕ) → 1 ≤ n → n < 2 → n - 1 - 1 ≡ n - 1
+      same n p h = omega arith
+
+  pub ended : 2 ≤ length typed → at (length typed - 1) ≡ 10 → (at (length typed - 2) ≡ 13 → ⊥) → Line typed (length typed - 1)
+  ended h e d = newline (length typed - 1) (omega arith) e λ f. d (omega (arith, f, ap at (same (length typed) h)))
+    where
+      same : (n : ℕ) → 2 ≤ n → n - 1 - 1 ≡ n - 2
+      same n h = omega arith
+
+  pub returned : 2 ≤ length typed → at (length typed - 1) ≡ 10 → at (length typed - 2) ≡ 13 → Line typed (length typed - 2)
+  returned h e d = both (length typed - 2) (omega arith) d (omega (arith, e, ap at (same (length typed) h)))
+    where
+      same : (n : ℕ) → 2 ≤ n → n - 2 + 1 ≡ n - 1
+      same n h = omega arith
+
 -- the text ends in a byte, as `strip_suffix` tests it
 abbrev pub ends : List ℕ → ℕ → Type 0
 ends xs v = pointwise nat_eq (drop (length xs - 1) xs) (v ∷ []) ≡ true
@@ -47,8 +73,8 @@ read : {xs ys : List ℕ} → Shorter xs ys → (i : ℕ) → i < length ys → 
 read {xs} s i h = ap (λ (zs : List ℕ). get_or zs i 0) s.is ∙ get_or-take (length xs - 1) xs i 0 (omega (arith, s.less))
 
 -- "\n"
-pub alone : (xs ys : List ℕ) → ends xs 10 → Shorter xs ys → other ys 13 → Line xs (length ys)
-alone xs ys e s d = newline (length ys) s.less (ap (λ (k : ℕ). get_or xs k 0) (omega (arith, s.less)) ∙ last xs 10 e) (λ f. go (dec_le 1 (length ys)) f)
+pub newline_alone : (xs ys : List ℕ) → ends xs 10 → Shorter xs ys → other ys 13 → Line xs (length ys)
+newline_alone xs ys e s d = newline (length ys) s.less (ap (λ (k : ℕ). get_or xs k 0) (omega (arith, s.less)) ∙ last xs 10 e) (λ f. go (dec_le 1 (length ys)) f)
   where
     go : Dec (1 ≤ length ys) → get_or xs (length ys - 1) 0 ≡ 13 → ⊥
     go (yes h) f = not_last ys 13 d h (read s (length ys - 1) (omega arith) ∙ f)
@@ -58,8 +84,8 @@ alone xs ys e s d = newline (length ys) s.less (ap (λ (k : ℕ). get_or xs k 0)
         same m n e h = omega arith
 
 -- "\r\n"
-pub returned : (xs ys zs : List ℕ) → ends xs 10 → Shorter xs ys → ends ys 13 → Shorter ys zs → Line xs (length zs)
-returned xs ys zs e s d t = both (length zs) (omega (arith, s.less, t.less))
+pub newline_returned : (xs ys zs : List ℕ) → ends xs 10 → Shorter xs ys → ends ys 13 → Shorter ys zs → Line xs (length zs)
+newline_returned xs ys zs e s d t = both (length zs) (omega (arith, s.less, t.less))
     (ap (λ (k : ℕ). get_or xs k 0) (omega (arith, t.less)) ∙ sym (read s (length ys - 1) (omega (arith, t.less))) ∙ last ys 13 d)
     (ap (λ (k : ℕ). get_or xs k 0) (omega (arith, s.less, t.less)) ∙ last xs 10 e)
 
@@ -77,10 +103,10 @@ front_twice {xs} {ys} {zs} s t = front t ∙ ap (λ (us : List ℕ). take (lengt
 pub stripped : (xs : List ℕ) (line : Bor (List ℕ)) (o : Option (Bor (List ℕ))) → ends xs 10 → Shorter xs line.now
     → MatchOption o (other line.now 13) (λ x. ends line.now 13 × (x.now ≡ take (length line.now - 1) line.now) × (length x.now + 1 ≡ length line.now))
     → Front xs (unwrap_or o line).now
-stripped xs line None e s d = (front s, omega (arith, s.less), alone xs line.now e s d)
+stripped xs line None e s d = (front s, omega (arith, s.less), newline_alone xs line.now e s d)
 stripped xs line (Some x) e s d =
     let t : Shorter line.now x.now = record { is = d.1; less = d.2 } in
-    (front_twice s t, omega (arith, s.less, t.less), returned xs line.now x.now e s d.0 t)
+    (front_twice s t, omega (arith, s.less, t.less), newline_returned xs line.now x.now e s d.0 t)
 
 pub kept : (xs : List ℕ) → other xs 10 → Front xs xs
 kept xs e = (sym (take_all (length xs) xs (omega arith)), omega arith, none xs e)

@@ -30,8 +30,13 @@ chosen true v = refl
 chosen false v = refl
 
 -- the number is worked out of all bytes, and told where there are some and all are digits
-pub numbered : (xs : List ℕ) → then_some (not (eqb (length xs) 0) && list_all digit xs) (fold with_digit 0 xs) ≡ number xs
+pub numbered_by : (xs : List ℕ) → then_some (not (eqb (length xs) 0) && list_all digit xs) (fold with_digit 0 xs) ≡ number xs
 unfolding number
-numbered xs =
+numbered_by xs =
     rw (some (length xs), all_run (ltb 0 (length xs)) xs, folded with_digit 0 xs)
     (chosen (run all_digits (ltb 0 (length xs)) xs) (run with_digit 0 xs))
+
+pub numbered : (digits : List ℕ) (whole : Bool) (value : ℕ) → whole ≡ run all_digits (ltb 0 (length digits)) digits → value ≡ run with_digit 0 digits
+    → choose whole (Some value) None ≡ number digits
+unfolding number
+numbered digits whole value e f = rw (e, f) refl

@@ -117,3 +117,9 @@ line_from f (suc n) i h = go (dec_lt i n) (line_from f n i)
     go (no l) ih =
         let e : n ≡ i = omega arith in
         get_or_at (lines_from f n) (line_at f n) [] no_numbers i (from_length f n ∙ e) ∙ ap (line_at f) e
+
+-- six stores, the last by any number that says whether it is a rule
+pub six_stored : (f : List ℕ) (i : ℕ) (l : LineNumbers) (r : ℕ) → r ≡ cond l.rule 1 0
+    → set (set (set (set (set (set f (i * 6) l.kind) (i * 6 + 1) l.first) (i * 6 + 2) l.second) (i * 6 + 3) l.lower) (i * 6 + 4) l.upper) (i * 6 + 5) r ≡ set_line f i l
+unfolding set_line
+six_stored f i l r e = rw e refl

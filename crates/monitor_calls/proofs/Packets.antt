@@ -71,9 +71,6 @@ module _ (z : Sizes) where
   Going s k₀ k n at =
       (n ≤ at) × (at ≤ length s) × Long z k × Sound z k × (store_each z k n at (messages_of (drop at s)) ≡ store_each z k₀ 0 0 (messages_of s))
 
-  pub begins : (s : List ℕ) (k : Knowledge) → Long z k → Sound z k → Going s k k 0 0
-  begins s k l h = (omega arith, omega arith, l, h, refl)
-
   pub at_end : (s : List ℕ) (k₀ k : Knowledge) (n at : ℕ) → length s ≤ at → Going s k₀ k n at → stores n None k ≡ store_each z k₀ 0 0 (messages_of s)
   at_end s k₀ k n at h g =
       ap (λ (ms : List (List ℕ)). store_each z k n at ms) (sym (ap messages_of (drop_of_length-le s {i = at} h) ∙ messages_none)) ∙ g.4

@@ -1,7 +1,7 @@
 -- What a message leaves in the record, and what a take makes of it: its reader's answer, then 9, then the store. Assumes nothing.
 use Rattle.std.specs.Prelude.{Err, Ok, Result}
 use Rattle.message.specs.declared.Message.{Message}
-use Prim.Native.Nat.{ℕ, ◌-◌, ◌≤◌, ◌<◌}
+use Prim.Native.Nat.{ℕ, ◌-◌, ◌<◌}
 use native.Mathlib.Omega.{arith}
 use mathlib.Core.Path.{◌≡◌, refl, sym, ap, subst, ◌∙◌}
 use mathlib.Core.Bool.{Bool, true, false}
@@ -148,9 +148,6 @@ module _ (p : Policy) (x : State) (b : List ℕ) where
 module _ (p : Policy) (b : List ℕ) (first : Step) (r : first ≡ step_of (first_of p.sizes b) (rest_of b)) where
   left : first.left ≡ length (rest_of b)
   left = ap (λ (y : Step). y.left) r
-
-  pub left_in : first.left ≤ length b
-  left_in = omega (arith, left, length-drop (used_of b) b)
 
   -- what was read is the message alone, where nothing follows it
   pub read_alone : first.left ≡ 0 → first.decoded ≡ decode_of p.sizes b

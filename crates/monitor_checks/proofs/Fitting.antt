@@ -1,26 +1,13 @@
 -- The sizes, tested one after another; the products are small. Assumes nothing.
 use mathlib.Core.Path.{◌≡◌, refl, sym, ap, ◌∙◌}
 use mathlib.Core.Bool.{true, false}
-use Prim.Native.Nat.{ℕ, suc, ◌+◌, ◌*◌, ◌≤◌}
-use native.Mathlib.Nat.{mul-le-mul}
+use Prim.Native.Nat.{ℕ, suc, ◌+◌, ◌*◌}
 use native.Mathlib.Numerals.{add-one}
-use native.Mathlib.Omega.{arith}
 use lib.Dec.{eqb}
 use borrow.Author.Tests.{eq-eqb, ne_eqb}
 use Rattle.policy.specs.declared.Policy.{Policy}
-use Rattle.policy.specs.Proper.{Proper}
 use Rattle.monitor.specs.declared.Lengths.{Lengths}
 use Rattle.monitor.specs.State.{sizes_fit}
-
-module _ (p : Policy) (z : Proper p) where
-  pub numbers_small : p.sizes.components * (p.sizes.minutes + 1) ≤ 16400
-  numbers_small = mul-le-mul {n₂ = 16} {m₂ = 1025} z.components.high (let h = z.minutes.high in omega arith)
-
-  pub valuation_small : p.count * p.sizes.minutes ≤ 65536
-  valuation_small = mul-le-mul {n₂ = 64} {m₂ = 1024} z.count.high z.minutes.high
-
-  pub verdicts_small : p.rules * p.sizes.minutes ≤ 8192
-  verdicts_small = mul-le-mul {n₂ = 8} {m₂ = 1024} z.rules.high z.minutes.high
 
 module _ (p : Policy) (l : Lengths) where
   same : p.sizes.components * (p.sizes.minutes + 1) ≡ p.sizes.components * suc p.sizes.minutes

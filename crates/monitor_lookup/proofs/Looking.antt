@@ -3,11 +3,8 @@ use Rattle.std.specs.Prelude.{Err, Ok}
 use mathlib.Core.Path.{◌≡◌, refl, sym, ap, ◌∙◌}
 use mathlib.Core.List.{List}
 use Prim.Native.Nat.{ℕ, ◌+◌, ◌*◌, ◌≤◌, ◌<◌}
-use native.Mathlib.Nat.{mul-le-mul}
-use native.Mathlib.Omega.{arith}
 use lib.ListN.{get_or, length}
 use borrow.Author.Tests.{eq-eqb, ne_eqb, lt-ltb, le-ltb}
-use Rattle.rows.proofs.Grid.{in_grid}
 use Rattle.refusal.specs.declared.Refusal.{Refusal}
 use Rattle.refusal.specs.declared.Refusal.TheVariants.{BufferSize, OutOfRange}
 use Rattle.refusal.specs.Checks.{Checked}
@@ -15,7 +12,6 @@ use Rattle.refusal.specs.Checks.{give_unless, first_failed, and_then}
 use Rattle.refusal.proofs.Laws.{in_order}
 use Rattle.policy.specs.Format.{policy_checks, answer_of, policy_of}
 use Rattle.policy.specs.declared.Policy.{Policy}
-use Rattle.policy.specs.Proper.{Proper}
 use Rattle.monitor.specs.declared.Verdict.{Verdict}
 use Rattle.monitor.specs.Lookup.{verdict_of, sheet_checks, code_at, look_at, lookup_of}
 use Rattle.policy.specs.ReadPolicy.{Read}
@@ -38,16 +34,6 @@ module _ (p : Policy) (v : List ℕ) (r t : ℕ) where
       pub there : t < p.sizes.minutes → Ok (verdict_of (get_or v (r * p.sizes.minutes + t) 0)) ≡ look_at p v r t
       unfolding look_at
       there h = simp (eq-eqb (length v) (p.rules * p.sizes.minutes) s, lt-ltb r p.rules l, lt-ltb t p.sizes.minutes h)
-
-      pub within : t < p.sizes.minutes → r * p.sizes.minutes + t < length v
-      within h = rw s (in_grid p.rules p.sizes.minutes r t l h)
-
--- the sheet's size is small
-pub sheet_small : (p : Policy) → Proper p → p.rules * p.sizes.minutes ≤ 8192
-sheet_small p z = mul-le-mul z.rules.high z.minutes.high
-
-pub row_small : (p : Policy) → Proper p → (r : ℕ) → r < p.rules → r * p.sizes.minutes ≤ 8192
-row_small p z r l = mul-le-mul {n₁ = r} {n₂ = 8} (let h = z.rules.high in omega arith) z.minutes.high
 
 -- the look after its policy is read
 module _ (s v : List ℕ) (r t : ℕ) where

@@ -41,7 +41,7 @@ use Rattle.rule_text.proofs.Laws.{inside_text}
 use Rattle.rule_text.proofs.Terms.{matched_text, four, cut_at, word_there}
 use Rattle.rule_text.specs.Descent.{Negations, Put}
 
-not_snoc : (n : ℕ) (u : List ℕ) → not_text n ++ (110 ∷ 111 ∷ 116 ∷ 32 ∷ u) ≡ not_text (suc n) ++ u
+pub not_snoc : (n : ℕ) (u : List ℕ) → not_text n ++ (110 ∷ 111 ∷ 116 ∷ 32 ∷ u) ≡ not_text (suc n) ++ u
 not_snoc zero u = refl
 not_snoc (suc n) u = ap (λ (w : List ℕ). 110 ∷ 111 ∷ 116 ∷ 32 ∷ w) (not_snoc n u)
 
@@ -60,7 +60,7 @@ module _ (text : List ℕ) (at started : ℕ) where
       nots_read h = ((l, h), λ m k s. (g.state m k s, g.stands))
 
       module _ (n : get_or text place 0 ≡ 110) where
-        behind_n : (m : ℕ) (k : List Wanted) → State m text (term ∷ k) at started → State m text (bytes (ascii "ot ") (term ∷ k)) (place + 1) (started + (count + 1))
+        pub behind_n : (m : ℕ) (k : List Wanted) → State m text (term ∷ k) at started → State m text (bytes (ascii "ot ") (term ∷ k)) (place + 1) (started + (count + 1))
         behind_n m k s =
             let e : suc place ≡ place + 1 = omega arith in
             let f : started + count + 1 ≡ started + (count + 1) = omega arith in
@@ -69,7 +69,7 @@ module _ (text : List ℕ) (at started : ℕ) where
             (advance (term ∷ k) place (started + count) (g.state m k s) (bytes (ascii "ot ") (term ∷ k)) 110 (inside_text text place 110 n (omega arith)) n refl
             (λ x. omega arith) (λ x. omega arith) (λ x. omega arith) (λ x. absurd (omega arith)) (λ x. l)))
 
-        plain_rest : PlainWord (ascii "ot ")
+        pub plain_rest : PlainWord (ascii "ot ")
         plain_rest = (refl, omega arith, (refl, omega arith, (refl, omega arith, tt)))
 
         module _ (found : Result ℕ Refusal) (d : WordAt text (place + 1) (ascii "ot ") found) where
@@ -128,7 +128,7 @@ writes_one f i l x n h e =
 
 module _ (m : ℕ) (text : List ℕ) (at i : ℕ) (f : List ℕ) (n : length f ≡ 384) (few : i < 64) where
   -- behind the "t"
-  behind_t : get_or text at 0 ≡ 116 → (k : List Wanted) (o : ℕ) → i + o < 64 → State m text (term ∷ k) at (i + o) → State m text (bytes (ascii "rue") k) (at + 1) (i + o + 1)
+  pub behind_t : get_or text at 0 ≡ 116 → (k : List Wanted) (o : ℕ) → i + o < 64 → State m text (term ∷ k) at (i + o) → State m text (bytes (ascii "rue") k) (at + 1) (i + o + 1)
   behind_t c k o l s =
       subst (λ (z : ℕ). State m text (bytes (ascii "rue") k) z (i + o + 1)) (sym (add-one at))
       (advance (term ∷ k) at (i + o) s (bytes (ascii "rue") k) 116 (inside_text text at 116 c (omega arith)) c refl (λ x. omega arith) (λ x. omega arith) (λ x. omega arith) (λ x. absurd (omega arith)) (λ x. l))
@@ -418,7 +418,7 @@ module _ (m : ℕ) (text : List ℕ) (at i around nesting : ℕ) (f g : List ℕ
       let q : suc (i + around) ≡ i + (around + 1) = omega arith in
       t.2 (byte 32 ∷ joint ∷ k) refl (omega arith) (subst (State m text (term ∷ byte 32 ∷ joint ∷ k) at) q s)
 
-  left_size : length g ≡ 384
+  pub left_size : length g ≡ 384
   unfolding TermRead
   left_size = t.0
 

@@ -142,7 +142,7 @@ value_grows : (v : ℕ) (u : List ℕ) → v ≤ value v u
 value_grows v [] = omega arith
 value_grows v (c ∷ u) = omega (arith, value_grows (10 * v + (c - 48)) u)
 
-value_more : (u w : List ℕ) (v x : ℕ) → length u ≡ length w → Digits u → Digits w → v < x → value v u < value x w
+pub value_more : (u w : List ℕ) (v x : ℕ) → length u ≡ length w → Digits u → Digits w → v < x → value v u < value x w
 value_more [] [] v x e h g l = l
 value_more [] (d ∷ w) v x e h g l = absurd (omega arith)
 value_more (c ∷ u) [] v x e h g l = absurd (omega arith)
@@ -190,7 +190,7 @@ digits_drop (suc n) [] h = tt
 digits_drop (suc n) (c ∷ u) h = digits_drop n u h.1
 
 -- the longer numeral is the larger number
-longer : (x y : ℕ) → length (digits y) < length (digits x) → y < x
+pub longer : (x y : ℕ) → length (digits y) < length (digits x) → y < x
 longer x y h =
     subst (λ (n : ℕ). n < x) (digits_value y) (subst (λ (n : ℕ). value 0 (digits y) < n) (digits_value x)
     (go (led x).first (led x).rest (led x).is (led x).zero_only))
@@ -236,6 +236,11 @@ pub spelled_bytes : (text : List ℕ) (i e n : ℕ) → Spelled text i e n → t
 spelled_bytes text i e n s =
     let k : e - i ≡ length (digits n) = omega (arith, (spelled_end text [] i e n s).0) in
     ap₂ take k s.spells ∙ take-append_seam (digits n) (drop e text)
+
+-- what is said of the bytes of two numbers is said of two numbers that stand in a text
+pub by_bytes : (text : List ℕ) (a c b d : ℕ) (r : Bool) → ((x y : ℕ) → take (c - a) (drop a text) ≡ digits x → take (d - b) (drop b text) ≡ digits y → r ≡ ltb y x)
+    → (x y : ℕ) → Spelled text a c x → Spelled text b d y → r ≡ ltb y x
+by_bytes text a c b d r o x y s t = o x y (spelled_bytes text a c x s) (spelled_bytes text b d y t)
 
 module _ (x y : ℕ) where
   -- of two numerals of different lengths the longer one is the larger number

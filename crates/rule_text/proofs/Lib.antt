@@ -1,6 +1,9 @@
+pub mod Compared
 pub mod Descent
 pub mod Examples
 pub mod Laws
+pub mod Matched
 pub mod Proved
+pub mod Refused
 pub mod Terms
 pub mod Writing

@@ -1,12 +1,12 @@
 -- Laws of the reader's functions: what each return of each of them says.
-use Rattle.std.specs.Prelude.{ℕ, suc, ◌+◌, ◌-◌, ◌≤◌, ◌<◌, ◌≡◌, Bool, true, cond, eqb, leb, ltb, length, get_or, Err, Ok, Result}
+use Rattle.std.specs.Prelude.{ℕ, suc, ◌+◌, ◌≤◌, ◌<◌, ◌≡◌, Bool, true, cond, eqb, leb, ltb, length, get_or, Err, Ok, Result}
 use Rattle.std.proofs.Common.{arith, add-one, ◌∙◌, take_all, ltb-true, ltb-false, ne_eqb, le-leb}
 use Rattle.std.proofs.Math.Decide.{dec_lt}
 use Rattle.std.proofs.Math.Path.{refl, sym, ap, subst}
 use Rattle.std.proofs.Math.Bool.{false}
 use Rattle.std.proofs.lemmas.Bool.{false≢true, lt-leb}
 use mathlib.Core.List.{List, [], ◌∷◌, ◌++◌, append_assoc}
-use Rattle.std.proofs.Math.ListN.{take, drop}
+use Rattle.std.proofs.Math.ListN.{drop}
 use Rattle.std.proofs.Math.Seq.{drop-cons}
 use Rattle.refusal.specs.declared.Refusal.{Refusal}
 use Rattle.refusal.specs.declared.Refusal.TheVariants.{RuleSyntax, RuleLimit}
@@ -26,7 +26,7 @@ use Rattle.policy.specs.declared.LineKind.{LineKind}
 use Rattle.rule_text.specs.declared.Joint.{Joint}
 use Rattle.policy.specs.LineKinds.{kind_number}
 use Rattle.rule_text.specs.Steps.{Refuses, Near, NumberAt, nothing, spelt_as, Comma, WordAt, IntervalGood, Narrow, IntervalOut, IntervalRead, WordRead, TimedRead, JointRead}
-use Rattle.rule_text.proofs.Laws.{inside_text, spelled_bytes}
+use Rattle.rule_text.proofs.Laws.{inside_text}
 
 -- none of four bytes
 pub four : (x y z w : Bool) (p q r s : Next) → x ≡ false → y ≡ false → z ≡ false → w ≡ false
@@ -108,6 +108,13 @@ module _ (text : List ℕ) (p d v : ℕ) (a : Comma text p d v) where
         go (nothing u z) q = absurd (q refl)
         go (spelt_as b c u l s r) q = (u, subst (λ (i : ℕ). Spelled text i b u) (add-one d) s, r)
 
+    pub second_inside : (d + 1 ≤ e) × (e ≤ length text) × (p + 1 ≤ d) × (d ≤ length text)
+    second_inside = let l = longer b q in (l, second.1.inside, omega (arith, a.longer), omega (arith, comma_inside.1))
+      where
+        longer : {e w : ℕ} → NumberAt text (d + 1) e w → (e ≡ d + 1 → ⊥) → d + 1 ≤ e
+        longer (nothing u z) q = omega arith
+        longer (spelt_as b c u l s r) q = omega arith
+
     pub not_closed : (x y : Refusal) → (get_or text e 0 ≡ 93 → ⊥) → x ≡ cond (leb w 1023) (RuleSyntax e) (RuleLimit (d + 1)) → y ≡ cond (leb v 1023) x (RuleLimit (p + 1))
         → IntervalRead text p (Err y)
     unfolding IntervalRead
@@ -123,11 +130,9 @@ module _ (text : List ℕ) (p d v : ℕ) (a : Comma text p d v) where
           (λ l. one_on m text 14 p (open_far_lower m text k p n s i.0 a.opens d a.number a.spelled i.1 a.comma e second.0 second.1 z (near_far a.near l)))),
     )
 
-    module _ (z : get_or text e 0 ≡ 93) (r : Bool) (o : (x y : ℕ) → take (d - (p + 1)) (drop (p + 1) text) ≡ digits x → take (e - (d + 1)) (drop (d + 1) text) ≡ digits y → r ≡ ltb y x) where
+    module _ (z : get_or text e 0 ≡ 93) (r : Bool) (o : (x y : ℕ) → Spelled text (p + 1) d x → Spelled text (d + 1) e y → r ≡ ltb y x) where
       order : r ≡ ltb second.0 a.number
-      order =
-          o a.number second.0 (ap (λ (i : ℕ). take (d - i) (drop i text)) (add-one p) ∙ spelled_bytes text (suc p) d a.number a.spelled)
-          (ap (λ (i : ℕ). take (e - i) (drop i text)) (add-one d) ∙ spelled_bytes text (suc d) e second.0 second.1)
+      order = o a.number second.0 (subst (λ (i : ℕ). Spelled text i d a.number) (sym (add-one p)) a.spelled) (subst (λ (i : ℕ). Spelled text i e second.0) (sym (add-one d)) second.1)
 
       closes : e < length text
       closes = inside_text text e 93 z (omega arith)

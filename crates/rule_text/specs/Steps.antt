@@ -154,9 +154,19 @@ GroupRead m text at i around nesting f g r =
     (length g ≡ 384) × Grown i around r
     × ((k : List Wanted) (p : ℕ) → drop p text ≡ 40 ∷ drop at text → closers k + suc nesting ≡ 32 → State m text (term ∷ byte 32 ∷ joint ∷ k) at (suc (i + around)) → TermOut m text k p i around f g r)
 
+-- there is room for n lines more, and there is one at least
+abbrev pub Room : Result Cursor Refusal → ℕ → Type 0
+Room (Ok c) n = (0 < c.lines) × (c.lines + n ≤ 64)
+Room (Err r) n = Unit
+
 -- behind c, the lines of a run of n "not" follow the last line
 unfoldable pub Negated : Cursor → ℕ → List ℕ → List ℕ → Cursor → Type 0
 Negated c n f g r = (r ≡ record { at = c.at; lines = c.lines + n }) × Writes f g c.lines (not_lines (c.lines - 1) n)
+
+-- the same behind a term that may be refused, which is then the answer
+unfoldable pub NegatedTerm : Result Cursor Refusal → ℕ → List ℕ → List ℕ → Result Cursor Refusal → Type 0
+NegatedTerm (Ok c) n f g r = (r ≡ Ok (record { at = c.at; lines = c.lines + n })) × Writes f g c.lines (not_lines (c.lines - 1) n)
+NegatedTerm (Err q) n f g r = (r ≡ Err q) × (g ≡ f)
 
 -- the second term of a group has been read, and the lines of the first end before line `left`
 abbrev pub ClosedOut : ℕ → List ℕ → Cursor → Joint → ℕ → List ℕ → List ℕ → Result Cursor Refusal → Type 0
@@ -167,6 +177,11 @@ ClosedOut m text c w left f g (Err r) = (k : List Wanted) (n : ℕ) → State m 
 
 unfoldable pub ClosedBy : List ℕ → Cursor → Joint → ℕ → List ℕ → List ℕ → Result Cursor Refusal → Type 0
 ClosedBy text c w left f g r = (length g ≡ 384) × ((around : ℕ) → c.lines + suc around ≤ 64 → Grown c.lines around r) × ((m : ℕ) → ClosedOut m text c w left f g r)
+
+-- the same behind a second term that may be refused, which is then the answer
+unfoldable pub ClosedTerm : List ℕ → Result Cursor Refusal → Joint → ℕ → List ℕ → List ℕ → Result Cursor Refusal → Type 0
+ClosedTerm text (Ok c) w left f g r = ClosedBy text c w left f g r
+ClosedTerm text (Err q) w left f g r = (r ≡ Err q) × (g ≡ f)
 
 -- ---- the whole text
 

@@ -6,11 +6,8 @@ use Rattle.knowledge.specs.Run.{held}
 use Rattle.monitor.specs.State.{lent}
 use Rattle.monitor.proofs.Laws.{knowledge_sized}
 use Rattle.monitor_checks.proofs.Checking.{limits}
-use Rattle.monitor_calls.proofs.Storing.{left_in, take_followed, read_ranged, take_refused, take_alone, settle_refused, settle_taken, settle_needs}
+use Rattle.monitor_calls.proofs.Storing.{take_followed, read_ranged, take_refused, take_alone, settle_refused, settle_taken, settle_needs}
 use Rattle.monitor_calls.proofs.take_message.Goals as goal
-
-pub overflow_sub-result : goal.overflow_sub-result
-overflow_sub-result c = let a = c.args in left_in a.policy a.message.now _ c.first_step-first.ensures
 
 pub returns-then-first-ne0 : goal.returns-then-first-ne0
 returns-then-first-ne0 c =

@@ -2,15 +2,8 @@
 -- Assumes nothing.
 use Rattle.knowledge.specs.Run.{held}
 use Rattle.monitor.specs.State.{lent}
-use Rattle.monitor.proofs.Laws.{knowledge_sized}
-use Rattle.monitor_checks.proofs.Checking.{limits}
 use Rattle.monitor_calls.proofs.Packets.{none_taken, some_needs, some_taken}
 use Rattle.monitor_calls.proofs.take_packet.Goals as goal
-
-pub store_messages-answer-requires : goal.store_messages-answer-requires
-store_messages-answer-requires c =
-    let a = c.args in
-    (limits a.policy c.requires.0, knowledge_sized a.policy c.requires.1, c.requires.2)
 
 pub returns-then-answer-eq0 : goal.returns-then-answer-eq0
 returns-then-answer-eq0 c =

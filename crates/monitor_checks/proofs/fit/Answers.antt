@@ -1,11 +1,7 @@
 -- Each size that is off answers no, and the last one decides.
 -- Assumes nothing.
-use native.Mathlib.Omega.{arith}
-use Rattle.monitor_checks.proofs.Fitting.{numbers_small, valuation_small, verdicts_small, numbers_off, facts_off, valuation_off, verdicts_off, origin_test}
+use Rattle.monitor_checks.proofs.Fitting.{numbers_off, facts_off, valuation_off, verdicts_off, origin_test}
 use Rattle.monitor_checks.proofs.fit.Goals as goal
-
-pub overflow_mul-sizes : goal.overflow_mul-sizes
-overflow_mul-sizes c = omega (arith, numbers_small c.args.policy c.requires)
 
 pub returns-then-lengths-sizes : goal.returns-then-lengths-sizes
 returns-then-lengths-sizes c =
@@ -17,16 +13,10 @@ returns-then-lengths-minutes c =
     let a = c.args in
     facts_off a.policy a.lengths c.if-lengths-sizes.false c.if-lengths-minutes.true
 
-pub overflow_mul-policy : goal.overflow_mul-policy
-overflow_mul-policy c = omega (arith, valuation_small c.args.policy c.requires)
-
 pub returns-then-lengths-policy : goal.returns-then-lengths-policy
 returns-then-lengths-policy c =
     let a = c.args in
     valuation_off a.policy a.lengths c.if-lengths-sizes.false c.if-lengths-minutes.false c.if-lengths-policy.true
-
-pub overflow_mul-policy-2 : goal.overflow_mul-policy-2
-overflow_mul-policy-2 c = omega (arith, verdicts_small c.args.policy c.requires)
 
 pub returns-then-lengths-policy-2 : goal.returns-then-lengths-policy-2
 returns-then-lengths-policy-2 c =
