@@ -5,8 +5,8 @@ ghost use Rattle.compile_rule.specs.Words as S;
 use crate::excess::{Passed, limit_at};
 use crate::reason::reason_at;
 use refusal::Refusal;
-use std::fmt;
 use std::fmt::{Display, Formatter, Write};
+use std::{fmt, str};
 
 pub fn usage(rt: &impl Eprint) {
     let _ = eprintln!(rt; "usage: compile_rule MARKS STATIONS MINUTES < RULE > CARD");
@@ -27,14 +27,23 @@ fn shown(byte: u8) -> u8
     }
 }
 
+// How many bytes are shown at once.
+const PIECE: usize = 128;
+
 // Bytes as they are shown.
 #[derive(Clone, Copy)]
 pub struct Visible<'a>(pub &'a [u8]);
 
 impl Display for Visible<'_> {
     fn fmt<W: fmt::Write>(&self, f: &mut Formatter<W>) -> fmt::Result {
-        for byte in self.0 {
-            f.write_char(char::from(shown(*byte)))?;
+        // In pieces, since a text may have 65,536 bytes: byte by byte it took twice the time.
+        for piece in self.0.chunks(PIECE) {
+            let mut text = [b' '; PIECE];
+            for (place, byte) in text.iter_mut().zip(piece) {
+                *place = shown(*byte);
+            }
+            let text = &text[..piece.len().min(PIECE)];
+            f.write_str(str::from_utf8(text).map_err(|_| fmt::Error)?)?;
         }
         Ok(())
     }

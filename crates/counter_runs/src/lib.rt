@@ -93,20 +93,22 @@ fn previous_known(run: &[u16], place: usize) -> Found
     requires { (0 < place) × (place ≤ length run.now) }
     ensures { Back (cell run.now) place result }
 {
+    let mut reads: usize = 0;
     for i in (0..place).rev() {
         let v = run[i];
+        reads += 1;
         if v < NONE {
             return Found {
                 place: i,
                 number: v,
-                reads: place - i,
+                reads,
             };
         }
     }
     Found {
         place: 0,
         number: NONE,
-        reads: place,
+        reads,
     }
 }
 

@@ -1,6 +1,7 @@
 pub mod Causes
 pub mod Invariant
 pub mod Keeping
+pub mod Kept
 pub mod Looks
 pub mod Packets
 pub mod Past

@@ -3,6 +3,7 @@
 #![tactic(auto)]
 
 mod lines;
+mod output;
 mod show;
 
 ghost use Rattle.std.specs.Prelude.{◌≡◌, ℕ, ◌+◌, ◌*◌, ◌≤◌, ◌<◌, List, length, min, drop, slice_index, slice_index_or};
@@ -10,6 +11,7 @@ ghost use Rattle.std.specs.Iterator.{YieldsFirst, item_count};
 ghost use Rattle.hex_lines.specs.Hex.{digit_of, bytes_of};
 
 pub use lines::{each_line, echo_lines};
+pub use output::BestEffort;
 pub use show::{Hex, Listed, joined, kept, spaced};
 
 // The bytes of a line that are still to be read.

@@ -5,7 +5,7 @@
 // A line that starts with '#' says what the next ones are, and is printed as it is.
 #![tactic(auto)]
 
-use hex_lines::Bytes;
+use hex_lines::{BestEffort, Bytes};
 use message::{Event, Message};
 use policy::Sizes;
 use std::io::Result;
@@ -48,5 +48,6 @@ fn show_vector(rt: &impl Print, line: &[u8]) -> Result<()> {
 }
 
 fn main(rt: HostRuntime) {
-    hex_lines::echo_lines(&rt, |line| show_vector(&rt, line));
+    let out = BestEffort(&rt);
+    hex_lines::echo_lines(&out, |line| show_vector(&out, line));
 }

@@ -9,7 +9,7 @@
 
 ghost use Rattle.std.specs.Prelude.{◌≤◌};
 
-use hex_lines::{Bytes, kept, spaced};
+use hex_lines::{BestEffort, Bytes, kept, spaced};
 use refusal::Refusal;
 use std::io;
 
@@ -56,5 +56,6 @@ fn show_vector(rt: &impl Print, line: &[u8]) -> io::Result<()> {
 }
 
 fn main(rt: HostRuntime) {
-    hex_lines::echo_lines(&rt, |line| show_vector(&rt, line));
+    let out = BestEffort(&rt);
+    hex_lines::echo_lines(&out, |line| show_vector(&out, line));
 }

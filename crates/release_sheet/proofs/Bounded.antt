@@ -8,7 +8,11 @@ use Rattle.policy.specs.Proper.{Proper}
 use Rattle.policy.proofs.Laws.{accepted}
 
 pub record Bounded (p : Policy) : Type 0 where
+  pub components : p.sizes.components ≤ 16
   pub minutes : p.sizes.minutes ≤ 1024
+  pub longer : p.sizes.minutes + 1 ≤ 1025
+  pub count : p.count ≤ 64
+  pub rules : p.rules ≤ 8
   pub numbers : p.sizes.components * (p.sizes.minutes + 1) ≤ 16400
   pub valuation : p.count * p.sizes.minutes ≤ 65536
   pub verdicts : p.rules * p.sizes.minutes ≤ 8192
@@ -17,7 +21,11 @@ proper : (p : Policy) → Proper p → Bounded p
 proper p l =
     let longer : p.sizes.minutes + 1 ≤ 1025 = omega (arith, l.minutes.high) in
     record {
+      components = l.components.high;
       minutes = l.minutes.high;
+      longer = longer;
+      count = l.count.high;
+      rules = l.rules.high;
       numbers = mul-le-mul l.components.high longer;
       valuation = mul-le-mul l.count.high l.minutes.high;
       verdicts = mul-le-mul l.rules.high l.minutes.high;

@@ -52,18 +52,16 @@ fn fill(rt: &(impl Input + Clock), buffer: &mut [u8], from: usize) -> usize
 }
 
 impl<'a, R: Input + Clock> Source<'a, R> {
-    // Reads the first piece of the input.
-    pub fn start(rt: &'a R) -> Source<'a, R> {
-        let mut source = Source {
+    // The input, of which nothing is read yet: a buffer that was filled and then handed out would stand on the stack twice.
+    pub fn new(rt: &'a R) -> Source<'a, R> {
+        Source {
             rt,
             buffer: [0; PIECE],
             at: 0,
             end: 0,
             more: true,
             before: 0,
-        };
-        source.refill();
-        source
+        }
     }
 
     // The place in the input of the next byte. No input has 2 ^ 64 bytes.
@@ -72,7 +70,7 @@ impl<'a, R: Input + Clock> Source<'a, R> {
     }
 
     // Keeps what is not yet used, and fills the rest of the buffer.
-    fn refill(&mut self) {
+    pub fn refill(&mut self) {
         self.before = self.position();
         let left = self.end - self.at;
         self.buffer.copy_within(self.at..self.end, 0);

@@ -15,6 +15,7 @@ ghost use Rattle.release_sheet.specs.Counting.{tallied};
 use input::Source;
 use monitor::Verdict;
 use output::Page;
+use parts::Parts;
 use refusal::Refusal;
 use state::State;
 use std::io;
@@ -73,35 +74,66 @@ fn receive_all<R: Input + Clock + Eprint>(
     tally
 }
 
-// Prints the verdicts, by minute and then by rule, and the tally.
-fn print_sheet(rt: &(impl Print + Clock), state: &State<'_>, tally: Tally) -> io::Result<()> {
-    let mut page = Page::new(rt);
+// Puts the verdicts, by minute and then by rule, and the tally.
+fn put_sheet<R: Print + Clock>(
+    page: &mut Page<'_, R>,
+    state: &State<'_>,
+    tally: Tally,
+) -> io::Result<()> {
     for minute in 0..state.minutes() {
         for rule in 0..state.rules() {
+            page.make_room()?;
             match state.verdict(rule, minute) {
-                Verdict::Satisfied => writeln!(page, "{minute} {rule} kept")?,
-                Verdict::Violated => writeln!(page, "{minute} {rule} broken")?,
+                Verdict::Satisfied => page.put_line(format_args!("{minute} {rule} kept"))?,
+                Verdict::Violated => page.put_line(format_args!("{minute} {rule} broken"))?,
                 Verdict::Unknown => {}
             }
         }
     }
+    page.make_room()?;
     let Tally { taken, refused } = tally;
-    writeln!(page, "taken {taken} refused {refused}")?;
-    page.flush()
+    page.put_line(format_args!("taken {taken} refused {refused}"))
+}
+
+// Prints the verdicts and the tally; nothing is left in the text.
+fn print_sheet<R: Print + Clock>(
+    page: &mut Page<'_, R>,
+    state: &State<'_>,
+    tally: Tally,
+) -> io::Result<()>
+    ensures { page.new.at ≡ 0 }
+{
+    let sheet = put_sheet(page, state, tally);
+    sheet.and(page.flush())
+}
+
+// Puts the only line where the policy is refused.
+fn put_refused<R: Print + Clock>(page: &mut Page<'_, R>, refusal: Refusal) -> io::Result<()> {
+    page.make_room()?;
+    let number = refusal.number();
+    let place = refusal.place();
+    page.put_line(format_args!("card refused {number} at {place}"))
+}
+
+// Prints that line; nothing is left in the text.
+fn print_refused<R: Print + Clock>(page: &mut Page<'_, R>, refusal: Refusal) -> io::Result<()>
+    ensures { page.new.at ≡ 0 }
+{
+    let line = put_refused(page, refusal);
+    line.and(page.flush())
 }
 
 // Prints that the policy, which starts at a byte of the input, is refused, and tells why.
-fn refuse_policy(
-    rt: &(impl Print + Eprint + Clock),
+fn refuse_policy<R: Print + Eprint + Clock>(
+    rt: &R,
+    page: &mut Page<'_, R>,
     start: u64,
     refusal: Refusal,
-) -> io::Result<()> {
+) -> io::Result<()>
+    ensures { page.new.at ≡ 0 }
+{
     report::policy_refused(rt, start, refusal);
-    let mut page = Page::new(rt);
-    let number = refusal.number();
-    let place = refusal.place();
-    writeln!(page, "card refused {number} at {place}")?;
-    page.flush()
+    print_refused(page, refusal)
 }
 
 // The policy's length as the first two bytes say it; 0 where they are not there.
@@ -114,23 +146,30 @@ fn policy_length(bytes: &[u8]) -> usize {
 
 // Reads the policy and the messages, and prints the sheet, or the line that says that the policy is refused.
 fn watch<R: Input + Print + Eprint + Clock>(rt: &R) -> io::Result<()> {
-    let mut source = Source::start(rt);
+    let mut page = Page::new(rt);
+    let mut source = Source::new(rt);
+    source.refill();
     let length = policy_length(source.take(2));
     let start = source.position();
     if length > LONGEST_POLICY {
-        return refuse_policy(rt, start, Refusal::TruncatedPolicy(LONGEST_POLICY));
+        let refusal = Refusal::TruncatedPolicy(LONGEST_POLICY);
+        return refuse_policy(rt, &mut page, start, refusal);
     }
     let mut policy = [0u8; LONGEST_POLICY];
     let read = source.take(length);
     let n = read.len();
     policy[..n].copy_from_slice(read);
-    match State::open(&policy[..n]) {
-        Ok(mut state) => {
-            let tally = receive_all(rt, &mut source, &mut state);
-            print_sheet(rt, &state, tally)
-        }
-        Err(refusal) => refuse_policy(rt, start, refusal),
+    let policy = &policy[..n];
+    let parts = match Parts::of(policy) {
+        Ok(parts) => parts,
+        Err(refusal) => return refuse_policy(rt, &mut page, start, refusal),
+    };
+    let mut state = State::new(policy, parts);
+    if let Err(refusal) = state.open() {
+        return refuse_policy(rt, &mut page, start, refusal);
     }
+    let tally = receive_all(rt, &mut source, &mut state);
+    print_sheet(&mut page, &state, tally)
 }
 
 fn main(rt: HostRuntime) {

@@ -1,12 +1,18 @@
 // Standard output, written in large pieces.
-ghost use Rattle.std.specs.Prelude.{◌≡◌, ◌≤◌, OnOk, IsNone};
+ghost use Rattle.std.specs.Prelude.{◌≡◌, ◌+◌, ◌-◌, ◌≤◌, length, min, eqb, cond, OnOk, IfOk, None, IsNone};
+ghost use Rattle.std.specs.Io.{WritesAtMost};
+ghost use Rattle.std.specs.Io.KnownBytes.{WriteAppends};
 
 use crate::retry;
+use std::fmt::Display;
 use std::io::{Error, ErrorKind, Print, Result, Write};
 use std::rt::Clock;
 
 // How much is written at once.
 const PIECE: usize = 65536;
+
+// No line is longer: it has two numbers, of at most 20 digits each, and words of 24 bytes at most.
+const LONGEST_LINE: usize = 64;
 
 // Standard output, the text that is to be written next, and why it was cut, where a write has failed.
 // A buffer beside its places: fixed memory, no heap.
@@ -44,11 +50,33 @@ impl<'a, R: Print + Clock> Page<'a, R> {
             cut: None,
         }
     }
+
+    // Makes room for a line, so that each piece that is written ends with a line.
+    pub fn make_room(&mut self) -> Result<()>
+        ensures { self.new.at + 64 ≤ 65536 }
+    {
+        if PIECE - self.at < LONGEST_LINE {
+            return self.flush();
+        }
+        Ok(())
+    }
+
+    // Puts a line, for which there is room.
+    pub fn put_line<D: Display + Drop>(&mut self, line: D) -> Result<()>
+        requires { self.old.at + 64 ≤ 65536 }
+    {
+        self.writeln(line)
+    }
 }
 
 impl<'a, R: Print + Clock> Write for Page<'a, R> {
-    // Puts into the text what there is room for.
-    fn write(&mut self, bytes: &[u8]) -> Result<usize> {
+    // Puts into the text what there is room for; a full text is written first.
+    fn write(&mut self, bytes: &[u8]) -> Result<usize>
+        ensures bound { WritesAtMost result bytes.now }
+        ensures bytes { WriteAppends None None result bytes.now }
+        ensures placed { IfOk result (λ n. self.new.at ≡ cond (eqb self.old.at 65536) 0 self.old.at + n) }
+        ensures filled { IfOk result (λ n. n ≡ min (length bytes.now) (65536 - cond (eqb self.old.at 65536) 0 self.old.at)) }
+    {
         if self.at == PIECE {
             self.flush()?;
         }

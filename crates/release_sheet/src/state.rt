@@ -23,20 +23,23 @@ pub struct State<'a> {
 }
 
 impl<'a> State<'a> {
-    // Opens a fresh state under a policy.
-    pub fn open(policy: &'a [u8]) -> Result<State<'a>, Refusal> {
-        let mut state = State {
+    // A state under a policy, of which it needs these parts, not yet opened: one that was opened and then handed out would stand on the stack twice.
+    pub fn new(policy: &'a [u8], parts: Parts) -> State<'a> {
+        State {
             policy,
-            parts: Parts::of(policy)?,
+            parts,
             numbers: [0; 16400],
             facts: [0; 2048],
             valuation: [0; 65536],
             verdicts: [0; 8192],
             origin: [0; 517],
             extent: 0,
-        };
-        monitor_calls::open(policy, state.buffers())?;
-        Ok(state)
+        }
+    }
+
+    // Opens it afresh.
+    pub fn open(&mut self) -> Result<(), Refusal> {
+        monitor_calls::open(self.policy, self.buffers())
     }
 
     // The parts of the arrays that the policy needs.

@@ -78,15 +78,16 @@ pub fn number_at(text: &[u8], at: usize) -> Numeral
         };
     }
     let rest = &text[at.min(text.len())..];
-    let count = rest.iter().take_while(|b| b.is_ascii_digit()).count();
+    let mut end = at;
     let mut value = 0;
-    for byte in &rest[..count] {
+    for byte in rest {
+        if !byte.is_ascii_digit() {
+            return Numeral { end, value };
+        }
         value = with_digit(value, *byte);
+        end += 1;
     }
-    Numeral {
-        end: at + count,
-        value,
-    }
+    Numeral { end, value }
 }
 
 // Is the first of two numerals the larger number: the longer, or of two as long the one whose first digit that differs is larger.

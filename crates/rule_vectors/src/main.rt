@@ -6,7 +6,7 @@
 // A line that starts with '#' says what the next ones are, and is printed as it is.
 #![tactic(auto)]
 
-use hex_lines::{Hex, kept};
+use hex_lines::{BestEffort, Hex, kept};
 use refusal::Refusal;
 use std::io;
 
@@ -51,5 +51,6 @@ fn show_vector(rt: &impl Print, line: &[u8]) -> io::Result<()> {
 }
 
 fn main(rt: HostRuntime) {
-    hex_lines::echo_lines(&rt, |line| show_vector(&rt, line));
+    let out = BestEffort(&rt);
+    hex_lines::echo_lines(&out, |line| show_vector(&out, line));
 }

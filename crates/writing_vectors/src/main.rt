@@ -11,7 +11,7 @@
 // A line that starts with '#' says what the next ones are, and is printed as it is.
 #![tactic(auto)]
 
-use hex_lines::{Bytes, Hex};
+use hex_lines::{BestEffort, Bytes, Hex};
 use message::{Event, Message, MessageNumbers};
 use policy::{LineNumbers, PolicyNumbers};
 use refusal::Refusal;
@@ -135,5 +135,6 @@ fn show_vector(rt: &impl Print, line: &[u8]) -> io::Result<()> {
 }
 
 fn main(rt: HostRuntime) {
-    hex_lines::echo_lines(&rt, |line| show_vector(&rt, line));
+    let out = BestEffort(&rt);
+    hex_lines::echo_lines(&out, |line| show_vector(&out, line));
 }
