@@ -5,8 +5,9 @@ use oracle::policy::MOST_MINUTES;
 use oracle::program::run;
 use std::fs::{File, OpenOptions};
 use std::io::{PipeWriter, Read, Write};
-use std::os::fd::AsRawFd;
+use std::os::fd::{AsRawFd, OwnedFd};
 use std::os::unix::fs::OpenOptionsExt;
+use std::os::unix::net::UnixDatagram;
 use std::process::{Command, Output, Stdio};
 use std::time::Duration;
 use std::{env, fs, io, process, thread};
@@ -63,6 +64,32 @@ fn an_output_that_would_block() {
     reader.read_to_string(&mut text).unwrap();
     assert!(child.wait().unwrap().success());
     assert_eq!(text, run(&input).text);
+}
+
+/// Of a sheet that is written in pieces each piece ends with a line. Each write is a datagram of its own.
+#[test]
+fn a_long_sheet_is_written_in_lines() {
+    let (reader, writer) = UnixDatagram::pair().unwrap();
+    reader.set_read_timeout(Some(100 * PAUSE)).unwrap();
+    let input = many_verdicts();
+    let mut command = Command::new(program());
+    command.stdin(Stdio::piped()).stdout(OwnedFd::from(writer)).stderr(Stdio::null());
+    let mut child = command.spawn().unwrap();
+    drop(command);
+    child.stdin.take().unwrap().write_all(&input).unwrap();
+    let expected = run(&input).text;
+    let mut text = Vec::new();
+    let mut pieces = 0;
+    while text.len() < expected.len() {
+        let mut piece = vec![0; 2 * expected.len()];
+        let size = reader.recv(&mut piece).unwrap();
+        text.extend(&piece[..size]);
+        assert_eq!(text.last(), Some(&b'\n'));
+        pieces += 1;
+    }
+    assert!(child.wait().unwrap().success());
+    assert_eq!(show(&text), expected);
+    assert!(pieces > 1);
 }
 
 /// What the program does where its input is a file and its output goes to a file.
