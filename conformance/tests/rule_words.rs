@@ -3,7 +3,10 @@
 use conformance::process::{compile_rule, show};
 use std::fs::File;
 use std::io::Write;
+use std::os::fd::OwnedFd;
+use std::os::unix::net::UnixDatagram;
 use std::process::{Command, Stdio};
+use std::time::Duration;
 
 /// Standard output and standard error of the program.
 fn compiled(sizes: &[&str], text: &[u8]) -> (Vec<u8>, String) {
@@ -151,6 +154,37 @@ fn wrong_arguments_and_a_text_that_is_too_long_are_told() {
         printed.is_empty()
             && refused.ends_with("(\n                                ^ 14 at 32: brackets nested deeper than 32\n")
     );
+}
+
+/// What is told of a text, by writes. Each write is a datagram of its own.
+fn pieces(text: &[u8]) -> Vec<String> {
+    let (reader, writer) = UnixDatagram::pair().unwrap();
+    reader.set_read_timeout(Some(Duration::from_secs(20))).unwrap();
+    let mut command = Command::new(compile_rule());
+    command.args(SIZES).stdin(Stdio::piped()).stdout(Stdio::null()).stderr(OwnedFd::from(writer));
+    let mut child = command.spawn().unwrap();
+    drop(command);
+    child.stdin.take().unwrap().write_all(text).unwrap();
+    let mut pieces: Vec<String> = Vec::new();
+    while pieces.last().is_none_or(|piece| pieces.len() < 3 || piece != "\n") {
+        let mut piece = vec![0; 1 << 17];
+        let size = reader.recv(&mut piece).unwrap();
+        pieces.push(show(&piece[..size]));
+    }
+    assert!(child.wait().unwrap().success());
+    pieces
+}
+
+/// So an error output that takes only a part of a refusal has what there is room for.
+#[test]
+fn each_piece_of_a_refusal_is_written_by_itself() {
+    let start = ["(m1 or m9)", "\n", "        ", "^ ", "14", " at ", "8", ": "];
+    let mark = ["mark ", "9", " of ", "8", "\n"];
+    assert_eq!(pieces(b"(m1 or m9)"), [&start[..], &mark].concat());
+    let interval = ["interval from ", "1024", " to ", "2", "\n"];
+    assert_eq!(pieces(b"(m0 since[1024,2] m1)")[8..], interval);
+    let long = pieces(&[b'('; 65536]);
+    assert_eq!((long[0].len(), long.len()), (65536, 10));
 }
 
 #[test]

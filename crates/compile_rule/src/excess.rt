@@ -4,10 +4,9 @@ ghost use Rattle.compile_rule.specs.Words as S;
 
 use crate::beginning;
 use crate::beginning::Expected;
-use crate::report::Visible;
+use crate::report::{put, put_number};
 use rule_lexer::byte_at;
-use std::fmt;
-use std::fmt::{Display, Formatter};
+use std::io::Print;
 
 #[derive(Clone, Copy)]
 pub enum Excess {
@@ -66,55 +65,47 @@ fn digits_end(text: &[u8]) -> usize
     end.unwrap_or(text.len())
 }
 
-// The digits that some bytes begin with, at most 20 of them.
-#[derive(Clone, Copy)]
-struct Digits<'a>(&'a [u8]);
+// Tells the digits that some bytes begin with, at most 20 of them.
+fn tell_digits(err: &impl Print, text: &[u8]) {
+    let digits = &text[..digits_end(text)];
+    if digits.len() > 20 {
+        put(err, &digits[..20]);
+        put(err, b"..");
+    } else {
+        put(err, digits);
+    }
+}
 
-impl Display for Digits<'_> {
-    fn fmt<W: fmt::Write>(&self, f: &mut Formatter<W>) -> fmt::Result {
-        let digits = &self.0[..digits_end(self.0)];
-        if digits.len() > 20 {
-            write!(f, "{}..", Visible(&digits[..20]))
-        } else {
-            write!(f, "{}", Visible(digits))
+// Tells the bounds of the interval whose bracket these bytes begin with.
+fn tell_interval(err: &impl Print, text: &[u8]) {
+    if let Some((_, lower)) = text.split_first() {
+        put(err, b"interval from ");
+        tell_digits(err, lower);
+        if let Some((_, upper)) = lower[digits_end(lower)..].split_first() {
+            put(err, b" to ");
+            tell_digits(err, upper);
         }
     }
 }
 
-// The bounds of the interval whose bracket these bytes begin with.
-#[derive(Clone, Copy)]
-struct Bounds<'a>(&'a [u8]);
-
-impl Display for Bounds<'_> {
-    fn fmt<W: fmt::Write>(&self, f: &mut Formatter<W>) -> fmt::Result {
-        let Some((_, lower)) = self.0.split_first() else {
-            return Ok(());
-        };
-        write!(f, "interval from {}", Digits(lower))?;
-        match lower[digits_end(lower)..].split_first() {
-            Some((_, upper)) => write!(f, " to {}", Digits(upper)),
-            None => Ok(()),
-        }
-    }
-}
-
-// The words of a limit that is passed, how many propositions there are, and the text from there on.
-#[derive(Clone, Copy)]
-pub struct Passed<'a> {
-    pub limit: Excess,
-    pub propositions: usize,
-    pub rest: &'a [u8],
-}
-
-impl Display for Passed<'_> {
-    fn fmt<W: fmt::Write>(&self, f: &mut Formatter<W>) -> fmt::Result {
-        let rest = self.rest;
-        match self.limit {
-            Excess::Mark => write!(f, "mark {} of {}", Digits(rest), self.propositions),
-            Excess::Bound => write!(f, "bound {} above 1023", Digits(rest)),
-            Excess::Terms => write!(f, "more than 64 terms"),
-            Excess::Nesting => write!(f, "brackets nested deeper than 32"),
-            Excess::Interval => write!(f, "{}", Bounds(rest)),
+impl Excess {
+    // Tells which limit is passed, by how many propositions there are and by the text from there on.
+    pub fn tell(self, err: &impl Print, propositions: usize, rest: &[u8]) {
+        match self {
+            Excess::Mark => {
+                put(err, b"mark ");
+                tell_digits(err, rest);
+                put(err, b" of ");
+                put_number(err, propositions);
+            }
+            Excess::Bound => {
+                put(err, b"bound ");
+                tell_digits(err, rest);
+                put(err, b" above 1023");
+            }
+            Excess::Terms => put(err, b"more than 64 terms"),
+            Excess::Nesting => put(err, b"brackets nested deeper than 32"),
+            Excess::Interval => tell_interval(err, rest),
         }
     }
 }

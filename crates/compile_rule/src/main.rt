@@ -26,8 +26,8 @@ fn print(rt: &impl Print, policy: &[u8]) {
     }
 }
 
-// Prints the policy of a text, or tells why there is none.
-fn compile(rt: &(impl Print + Eprint), text: &[u8], sizes: Sizes) {
+// Prints the policy of a text, or tells why there is none; the text's bytes are then used up.
+fn compile(rt: &impl Print, err: &impl Print, text: &mut [u8], sizes: Sizes) {
     let mut policy = [0u8; LONGEST_POLICY];
     match rule_parser::compile(
         text,
@@ -37,19 +37,23 @@ fn compile(rt: &(impl Print + Eprint), text: &[u8], sizes: Sizes) {
         &mut policy,
     ) {
         Ok(n) => print(rt, &policy[..n]),
-        Err(refusal) => report::refused(rt, text, sizes.propositions, refusal),
+        Err(refusal) => report::refused(err, text, sizes.propositions, refusal),
     }
 }
 
 fn main(rt: HostRuntime) {
+    let err = rt.stderr();
     let Some(sizes) = arguments::read(&rt) else {
-        report::usage(&rt);
+        report::usage(&err);
         return;
     };
     let mut text = [0u8; LONGEST_TEXT + 1];
     match input::fill(&mut rt.stdin(), &mut text) {
         Err(error) => failures::tell(b"input cut", error),
-        Ok(end) if end > LONGEST_TEXT => report::too_long(&rt),
-        Ok(end) => compile(&rt, input::without_newline(&text[..end]), sizes),
+        Ok(end) if end > LONGEST_TEXT => report::too_long(&err),
+        Ok(end) => {
+            let length = input::without_newline(&text[..end]).len();
+            compile(&rt, &err, &mut text[..length], sizes);
+        }
     }
 }

@@ -5,8 +5,6 @@ ghost use Rattle.compile_rule.specs.Words as S;
 use crate::beginning;
 use crate::beginning::Expected;
 use rule_lexer::byte_at;
-use std::fmt;
-use std::fmt::{Display, Formatter};
 
 #[derive(Clone, Copy)]
 pub enum Reason {
@@ -101,26 +99,26 @@ pub fn reason_at(text: &[u8], at: usize) -> Reason
     }
 }
 
-impl Display for Reason {
-    fn fmt<W: fmt::Write>(&self, f: &mut Formatter<W>) -> fmt::Result {
-        let words = match self {
-            Reason::Term => "expected a term",
-            Reason::True => "expected true",
-            Reason::Not => "expected not",
-            Reason::Space => "expected a space",
-            Reason::Number => "expected a number",
-            Reason::LeadingZero => "a number has no leading zero",
-            Reason::End => "expected the end",
-            Reason::Close => "expected \")\"",
-            Reason::Joint => "expected or, and, since or until",
-            Reason::Or => "expected or",
-            Reason::And => "expected and",
-            Reason::Since => "expected since",
-            Reason::Until => "expected until",
-            Reason::Bracket => "expected \"[\"",
-            Reason::Comma => "expected \",\"",
-            Reason::CloseInterval => "expected \"]\"",
-        };
-        f.write_str(words)
+impl Reason {
+    // What is told of it.
+    pub fn words(self) -> &'static [u8] {
+        match self {
+            Reason::Term => b"expected a term",
+            Reason::True => b"expected true",
+            Reason::Not => b"expected not",
+            Reason::Space => b"expected a space",
+            Reason::Number => b"expected a number",
+            Reason::LeadingZero => b"a number has no leading zero",
+            Reason::End => b"expected the end",
+            Reason::Close => b"expected \")\"",
+            Reason::Joint => b"expected or, and, since or until",
+            Reason::Or => b"expected or",
+            Reason::And => b"expected and",
+            Reason::Since => b"expected since",
+            Reason::Until => b"expected until",
+            Reason::Bracket => b"expected \"[\"",
+            Reason::Comma => b"expected \",\"",
+            Reason::CloseInterval => b"expected \"]\"",
+        }
     }
 }

@@ -1,19 +1,40 @@
 // What the program tells on standard error.
-ghost use Rattle.std.specs.Prelude.{◌≡◌};
+ghost use Rattle.std.specs.Prelude.{◌≡◌, ◌≤◌, length};
 ghost use Rattle.compile_rule.specs.Words as S;
 
-use crate::excess::{Passed, limit_at};
+use crate::excess::limit_at;
 use crate::reason::reason_at;
 use refusal::Refusal;
-use std::fmt::{Display, Formatter, Write};
-use std::{fmt, str};
+use std::fmt::InlineText;
+use std::io::Print;
 
-pub fn usage(rt: &impl Eprint) {
-    let _ = eprintln!(rt; "usage: compile_rule MARKS STATIONS MINUTES < RULE > CARD");
+// Writes a piece of what is told by itself: where one can't be written, or in part, the next ones are tried all the same.
+pub fn put(err: &impl Print, piece: &[u8]) {
+    let _ = err.write_all(piece);
 }
 
-pub fn too_long(rt: &impl Eprint) {
-    let _ = eprintln!(rt; "the text is longer than 65536 bytes");
+// A number's digits as a piece.
+pub fn put_number(err: &impl Print, number: usize) {
+    put(err, InlineText::<20>::of(number).as_str().as_bytes());
+}
+
+pub fn usage(err: &impl Print) {
+    put(
+        err,
+        b"usage: compile_rule MARKS STATIONS MINUTES < RULE > CARD\n",
+    );
+}
+
+pub fn too_long(err: &impl Print) {
+    put(err, b"the text is longer than 65536 bytes\n");
+}
+
+// The number and the place of a refusal, before its words.
+fn put_refusal(err: &impl Print, refusal: Refusal) {
+    put_number(err, usize::from(refusal.number()));
+    put(err, b" at ");
+    put_number(err, refusal.place());
+    put(err, b": ");
 }
 
 // The byte, or a question mark for one that is not printed.
@@ -27,64 +48,48 @@ fn shown(byte: u8) -> u8
     }
 }
 
-// How many bytes are shown at once.
-const PIECE: usize = 128;
-
-// Bytes as they are shown.
-#[derive(Clone, Copy)]
-pub struct Visible<'a>(pub &'a [u8]);
-
-impl Display for Visible<'_> {
-    fn fmt<W: fmt::Write>(&self, f: &mut Formatter<W>) -> fmt::Result {
-        // In pieces, since a text may have 65,536 bytes: byte by byte it took twice the time.
-        for piece in self.0.chunks(PIECE) {
-            let mut text = [b' '; PIECE];
-            for (place, byte) in text.iter_mut().zip(piece) {
-                *place = shown(*byte);
-            }
-            let text = &text[..piece.len().min(PIECE)];
-            f.write_str(str::from_utf8(text).map_err(|_| fmt::Error)?)?;
-        }
-        Ok(())
+// Shows the text and, below it, a caret under a place. The bytes are changed where they stand and written at once: a text may have 65,536 of
+// them, and no memory beside it is as long.
+fn point_at(err: &impl Print, text: &mut [u8], at: usize)
+    requires { at ≤ length text.old }
+    ensures { length text.new ≡ length text.old }
+{
+    for byte in text.iter_mut() {
+        *byte = shown(*byte);
     }
+    put(err, text);
+    put(err, b"\n");
+    text[..at].fill(b' ');
+    put(err, &text[..at]);
+    put(err, b"^ ");
 }
 
-// The text and, below it, a caret under a place.
-#[derive(Clone, Copy)]
-struct Pointer<'a> {
-    text: &'a [u8],
-    at: usize,
-}
-
-impl Display for Pointer<'_> {
-    fn fmt<W: fmt::Write>(&self, f: &mut Formatter<W>) -> fmt::Result {
-        let at = self.at;
-        write!(f, "{}\n{:at$}^ ", Visible(self.text), "")
-    }
-}
-
-// Tells why the text is refused. But for those of the first three there is no refusal: the buffer that the program lends is as long as the
-// longest policy.
-pub fn refused(rt: &impl Eprint, text: &[u8], propositions: usize, refusal: Refusal) {
-    let number = refusal.number();
-    let place = refusal.place();
-    let at = place.min(text.len());
-    let pointer = Pointer { text, at };
-    let _ = match refusal {
+// Tells why the text is refused. Its bytes are then used up. But for those of the first three there is no refusal: the buffer that the program
+// lends is as long as the longest policy.
+pub fn refused(err: &impl Print, text: &mut [u8], propositions: usize, refusal: Refusal) {
+    let at = refusal.place().min(text.len());
+    match refusal {
         Refusal::RuleSyntax(_) => {
-            eprintln!(rt; "{pointer}{number} at {place}: {}", reason_at(text, at))
+            let reason = reason_at(text, at);
+            point_at(err, text, at);
+            put_refusal(err, refusal);
+            put(err, reason.words());
+            put(err, b"\n");
         }
         Refusal::RuleLimit(_) => {
-            let passed = Passed {
-                limit: limit_at(text, at),
-                propositions,
-                rest: &text[at..],
-            };
-            eprintln!(rt; "{pointer}{number} at {place}: {passed}")
+            let limit = limit_at(text, at);
+            point_at(err, text, at);
+            put_refusal(err, refusal);
+            limit.tell(err, propositions, &text[at..]);
+            put(err, b"\n");
         }
         Refusal::BadHeading(_) => {
-            eprintln!(rt; "{number} at {place}: marks 1 to 32, stations 1 to 16, minutes 1 to 1024")
+            put_refusal(err, refusal);
+            put(err, b"marks 1 to 32, stations 1 to 16, minutes 1 to 1024\n");
         }
-        _ => eprintln!(rt; "{number} at {place}: refused"),
-    };
+        _ => {
+            put_refusal(err, refusal);
+            put(err, b"refused\n");
+        }
+    }
 }

@@ -1,3 +1,4 @@
--- What the printing program holds, and how it counts.
+-- What the printing program holds, how it counts, and how long its lines are.
 pub mod Arrays
 pub mod Counting
+pub mod Lines

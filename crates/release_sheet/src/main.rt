@@ -1,5 +1,6 @@
 // Prints the verdicts of a trace (01: the printing program). Standard input holds the policy's length in two bytes, the policy, and then
-// messages, each after one length byte, to the end; a piece that the end cuts is offered as it is.
+// messages, each after one length byte, to the end; a piece that the end cuts is offered as it is. What is marked `inline(never)` is compiled
+// apart, so that what a line is put together in stands on the stack only then.
 #![tactic(auto)]
 
 mod input;
@@ -75,6 +76,7 @@ fn receive_all<R: Input + Clock + Eprint>(
 }
 
 // Puts the verdicts, by minute and then by rule, and the tally.
+#[inline(never)]
 fn put_sheet<R: Print + Clock>(
     page: &mut Page<'_, R>,
     state: &State<'_>,
@@ -108,6 +110,7 @@ fn print_sheet<R: Print + Clock>(
 }
 
 // Puts the only line where the policy is refused.
+#[inline(never)]
 fn put_refused<R: Print + Clock>(page: &mut Page<'_, R>, refusal: Refusal) -> io::Result<()> {
     page.make_room()?;
     let number = refusal.number();

@@ -1,9 +1,12 @@
 // Standard output, written in large pieces.
-ghost use Rattle.std.specs.Prelude.{◌≡◌, ◌+◌, ◌-◌, ◌≤◌, length, min, eqb, cond, OnOk, IfOk, None, IsNone};
+ghost use Rattle.std.specs.Prelude.{◌≡◌, ◌+◌, ◌-◌, ◌≤◌, length, min, eqb, cond, OnOk, IfOk, IfSome, None, IsNone};
+ghost use Rattle.std.specs.Fmt.{with_newline};
 ghost use Rattle.std.specs.Io.{WritesAtMost};
 ghost use Rattle.std.specs.Io.KnownBytes.{WriteAppends};
+ghost use Rattle.release_sheet.specs.Lines.{LineFits, PutWhole};
 
 use crate::retry;
+use std::fmt;
 use std::fmt::Display;
 use std::io::{Error, ErrorKind, Print, Result, Write};
 use std::rt::Clock;
@@ -11,7 +14,7 @@ use std::rt::Clock;
 // How much is written at once.
 const PIECE: usize = 65536;
 
-// No line is longer: it has two numbers, of at most 20 digits each, and words of 24 bytes at most.
+// No line is longer, its newline among it: `put_line` asks that of each.
 const LONGEST_LINE: usize = 64;
 
 // Standard output, the text that is to be written next, and why it was cut, where a write has failed.
@@ -61,11 +64,28 @@ impl<'a, R: Print + Clock> Page<'a, R> {
         Ok(())
     }
 
-    // Puts a line, for which there is room.
+    // Puts a line that fits in the room that was made for it, whole: nothing is written before its end.
     pub fn put_line<D: Display + Drop>(&mut self, line: D) -> Result<()>
-        requires { self.old.at + 64 ≤ 65536 }
+        requires room { self.old.at + 64 ≤ 65536 }
+        requires fits { LineFits (D.output line) }
+        ensures placed { OnOk result (IfSome (with_newline (D.output line)) (λ bs. self.new.at ≡ self.old.at + length bs)) }
     {
-        self.writeln(line)
+        Ok(fmt::Write::writeln(self, line)?)
+    }
+}
+
+impl<'a, R: Print + Clock> fmt::Write for Page<'a, R> {
+    ghost write_str_gives = { λ s bs t. PutWhole s.at bs t.at };
+
+    // Puts a text that fits whole. A number comes in parts, some of them empty: none of those makes a full text be written.
+    fn write_str(&mut self, s: &str) -> fmt::Result {
+        if s.is_empty() {
+            return Ok(());
+        }
+        match Write::write(self, s.as_bytes()) {
+            Ok(n) if n == s.len() => Ok(()),
+            _ => Err(fmt::Error),
+        }
     }
 }
 

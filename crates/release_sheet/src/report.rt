@@ -1,4 +1,5 @@
-// What the program tells on standard error: why a policy or a message is refused.
+// What the program tells on standard error: why a policy or a message is refused. What is marked `inline(never)` is compiled apart, so that the
+// line that it puts together stands on the stack only while it is told.
 use refusal::Refusal;
 use std::fmt;
 use std::fmt::{Display, Formatter};
@@ -34,11 +35,13 @@ impl Display for Told {
 }
 
 // Tells why the policy, which starts at a byte of the input, is refused.
+#[inline(never)]
 pub fn policy_refused(rt: &impl Eprint, start: u64, refusal: Refusal) {
     let _ = eprintln!(rt; "card{}", Told { start, refusal });
 }
 
 // Tells why a message is refused: which one it is, counted from 0, and at which byte of the input it starts.
+#[inline(never)]
 pub fn message_refused(rt: &impl Eprint, index: u64, start: u64, refusal: Refusal) {
     let _ = eprintln!(rt; "slip {index}{}", Told { start, refusal });
 }

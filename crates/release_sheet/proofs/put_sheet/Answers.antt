@@ -1,0 +1,23 @@
+-- The lines of the sheet fit: their words have at most 15 bytes, their two numbers at most 20 digits each. Assumes nothing.
+use Rattle.std.proofs.Common.{arith, ◌∷◌, ◌++◌, codes}
+use Rattle.std.specs.Fmt.{decimal}
+use Rattle.release_sheet.proofs.Lines.{number_then_fits, number_fits}
+use Rattle.release_sheet.proofs.put_sheet.Goals as goal
+
+pub put_line-requires-clause-fits : goal.put_line-requires-clause-fits
+put_line-requires-clause-fits g c =
+    let minute = c.loop-minute.minute-counter in
+    let rule = c.loop-rule.rule-counter in
+    omega (arith, number_then_fits minute (32 ∷ (decimal rule ++ codes " kept")) (omega arith), number_then_fits rule (codes " kept") (omega arith))
+
+pub put_line-requires-in-Violated-clause-fits : goal.put_line-requires-in-Violated-clause-fits
+put_line-requires-in-Violated-clause-fits g c =
+    let minute = c.loop-minute.minute-counter in
+    let rule = c.loop-rule.rule-counter in
+    omega (arith, number_then_fits minute (32 ∷ (decimal rule ++ codes " broken")) (omega arith), number_then_fits rule (codes " broken") (omega arith))
+
+pub put_line-requires-2-clause-fits : goal.put_line-requires-2-clause-fits
+put_line-requires-2-clause-fits g c =
+    let taken = c.args.tally.taken in
+    let refused = c.args.tally.refused in
+    omega (arith, number_then_fits taken (codes " refused " ++ decimal refused) (omega arith), number_fits refused (omega arith))
