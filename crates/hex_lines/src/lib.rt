@@ -11,7 +11,7 @@ ghost use Rattle.std.specs.Iterator.{YieldsFirst, item_count};
 ghost use Rattle.hex_lines.specs.Hex.{digit_of, bytes_of};
 
 pub use lines::{each_line, echo_lines};
-pub use output::BestEffort;
+pub use output::{BestEffort, InPieces};
 pub use show::{Hex, Listed, joined, kept, spaced};
 
 // The bytes of a line that are still to be read.

@@ -14,7 +14,7 @@ ghost use Rattle.knowledge.specs.Knowledge.{Sized, Sound};
 ghost use Rattle.knowledge.specs.Laws.{Limits};
 ghost use Rattle.knowledge.specs.Run.{held, SteadyRuns};
 
-use hex_lines::{BestEffort, Bytes, joined, spaced};
+use hex_lines::{Bytes, InPieces, joined, spaced};
 use knowledge::Search;
 use message::Message;
 use policy::Sizes;
@@ -150,6 +150,6 @@ fn show_line(rt: &impl Print, line: &[u8]) -> Result<()> {
 }
 
 fn main(rt: HostRuntime) {
-    let out = BestEffort(&rt);
+    let out = InPieces(&rt);
     hex_lines::each_line(&out, |line| show_line(&out, line));
 }

@@ -5,7 +5,7 @@
 // A line that starts with '#' says what the next ones are, and is printed as it is.
 #![tactic(auto)]
 
-use hex_lines::{BestEffort, Bytes};
+use hex_lines::{Bytes, InPieces};
 use message::{Event, Message};
 use policy::Sizes;
 use std::io::Result;
@@ -48,6 +48,6 @@ fn show_vector(rt: &impl Print, line: &[u8]) -> Result<()> {
 }
 
 fn main(rt: HostRuntime) {
-    let out = BestEffort(&rt);
+    let out = InPieces(&rt);
     hex_lines::echo_lines(&out, |line| show_vector(&out, line));
 }

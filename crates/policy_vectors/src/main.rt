@@ -4,7 +4,7 @@
 
 ghost use Rattle.std.specs.Prelude.{◌≡◌, ◌≤◌, length};
 
-use hex_lines::BestEffort;
+use hex_lines::InPieces;
 use std::io::Result;
 
 // Card K of 01.
@@ -406,5 +406,5 @@ fn show_all(rt: &impl Print) -> Result<()> {
 }
 
 fn main(rt: HostRuntime) {
-    let _ = show_all(&BestEffort(&rt));
+    let _ = show_all(&InPieces(&rt));
 }

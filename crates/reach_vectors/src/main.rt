@@ -9,7 +9,7 @@
 
 ghost use Rattle.std.specs.Prelude.{◌≤◌};
 
-use hex_lines::{BestEffort, Bytes, kept, spaced};
+use hex_lines::{Bytes, InPieces, kept, spaced};
 use refusal::Refusal;
 use std::io;
 
@@ -56,6 +56,6 @@ fn show_vector(rt: &impl Print, line: &[u8]) -> io::Result<()> {
 }
 
 fn main(rt: HostRuntime) {
-    let out = BestEffort(&rt);
+    let out = InPieces(&rt);
     hex_lines::echo_lines(&out, |line| show_vector(&out, line));
 }

@@ -38,3 +38,8 @@ number_fits n h = length-decimal-le 20 n (omega arith) (omega arith) h
 -- and what stands behind it
 pub number_then_fits : (n : ℕ) (bs : List ℕ) → n < 2 ^ 64 → length (decimal n ++ bs) ≤ 20 + length bs
 number_then_fits n bs h = omega (arith, number_fits n h, length-append (decimal n) bs)
+
+-- two numbers with a space between them fit before any word of at most 22 bytes, a byte less than its newline leaves
+pub numbers_fit : (a b : ℕ) (word : List ℕ) → a < 2 ^ 64 → b < 2 ^ 64 → length word ≤ 22 → length (decimal a ++ (32 ∷ (decimal b ++ word))) + 1 ≤ 64
+numbers_fit a b word p q short =
+    omega (arith, number_then_fits a (32 ∷ (decimal b ++ word)) p, number_then_fits b word q)

@@ -1,6 +1,6 @@
 // Prints the verdicts of a trace (01: the printing program). Standard input holds the policy's length in two bytes, the policy, and then
 // messages, each after one length byte, to the end; a piece that the end cuts is offered as it is. What is marked `inline(never)` is compiled
-// apart, so that what a line is put together in stands on the stack only then.
+// apart, so that what a policy is read into or a line is put together in stands on the stack only then.
 #![tactic(auto)]
 
 mod input;
@@ -53,6 +53,7 @@ impl Tally {
 }
 
 // Offers every message of the input; a refusal is told.
+#[inline(never)]
 fn receive_all<R: Input + Clock + Eprint>(
     rt: &R,
     source: &mut Source<'_, R>,

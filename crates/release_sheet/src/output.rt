@@ -1,5 +1,5 @@
 // Standard output, written in large pieces.
-ghost use Rattle.std.specs.Prelude.{◌≡◌, ◌+◌, ◌-◌, ◌≤◌, length, min, eqb, cond, OnOk, IfOk, IfSome, None, IsNone};
+ghost use Rattle.std.specs.Prelude.{◌≡◌, ◌+◌, ◌-◌, ◌≤◌, ◌<◌, length, min, eqb, cond, IsOk, OnOk, IfOk, IfSome, None, IsNone};
 ghost use Rattle.std.specs.Fmt.{with_newline};
 ghost use Rattle.std.specs.Io.{WritesAtMost};
 ghost use Rattle.std.specs.Io.KnownBytes.{WriteAppends};
@@ -78,7 +78,10 @@ impl<'a, R: Print + Clock> fmt::Write for Page<'a, R> {
     ghost write_str_gives = { λ s bs t. PutWhole s.at bs t.at };
 
     // Puts a text that fits whole. A number comes in parts, some of them empty: none of those makes a full text be written.
-    fn write_str(&mut self, s: &str) -> fmt::Result {
+    fn write_str(&mut self, s: &str) -> fmt::Result
+        ensures ok { IsOk result → PutWhole self.old.at s.now self.new.at }
+        ensures fits { self.old.at + length s.now ≤ 65536 → IsOk result }
+    {
         if s.is_empty() {
             return Ok(());
         }
@@ -95,6 +98,7 @@ impl<'a, R: Print + Clock> Write for Page<'a, R> {
         ensures bound { WritesAtMost result bytes.now }
         ensures bytes { WriteAppends None None result bytes.now }
         ensures placed { IfOk result (λ n. self.new.at ≡ cond (eqb self.old.at 65536) 0 self.old.at + n) }
+        ensures taken { self.old.at < 65536 → IsOk result }
         ensures filled { IfOk result (λ n. n ≡ min (length bytes.now) (65536 - cond (eqb self.old.at 65536) 0 self.old.at)) }
     {
         if self.at == PIECE {

@@ -21,7 +21,8 @@ pub struct Parts {
 }
 
 impl Parts {
-    // What a policy needs; nothing can be told of one that is refused.
+    // What a policy needs; nothing can be told of one that is refused. Compiled apart, as main.rt says of others.
+    #[inline(never)]
     pub fn of(policy: &[u8]) -> Result<Parts, Refusal> {
         let Policy {
             sizes,

@@ -37,7 +37,8 @@ impl<'a> State<'a> {
         }
     }
 
-    // Opens it afresh.
+    // Opens it afresh. Compiled apart, as main.rt says of others.
+    #[inline(never)]
     pub fn open(&mut self) -> Result<(), Refusal> {
         monitor_calls::open(self.policy, self.buffers())
     }

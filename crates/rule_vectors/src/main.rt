@@ -6,7 +6,7 @@
 // A line that starts with '#' says what the next ones are, and is printed as it is.
 #![tactic(auto)]
 
-use hex_lines::{BestEffort, Hex, kept};
+use hex_lines::{Hex, InPieces, kept};
 use refusal::Refusal;
 use std::io;
 
@@ -51,6 +51,6 @@ fn show_vector(rt: &impl Print, line: &[u8]) -> io::Result<()> {
 }
 
 fn main(rt: HostRuntime) {
-    let out = BestEffort(&rt);
+    let out = InPieces(&rt);
     hex_lines::echo_lines(&out, |line| show_vector(&out, line));
 }

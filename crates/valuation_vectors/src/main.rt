@@ -11,7 +11,7 @@ mod worked;
 
 ghost use Rattle.std.specs.Prelude.{◌≡◌, ◌*◌, ◌≤◌, ◌<◌, length, IfOk};
 
-use hex_lines::{BestEffort, joined};
+use hex_lines::{InPieces, joined};
 use line::{Line, Rows};
 use policy::LineKind;
 use random::Random;
@@ -182,5 +182,5 @@ fn show_all(rt: &impl Print) -> Result<()> {
 }
 
 fn main(rt: HostRuntime) {
-    let _ = show_all(&BestEffort(&rt));
+    let _ = show_all(&InPieces(&rt));
 }

@@ -11,7 +11,7 @@
 // A line that starts with '#' says what the next ones are, and is printed as it is.
 #![tactic(auto)]
 
-use hex_lines::{BestEffort, Bytes, Hex};
+use hex_lines::{Bytes, Hex, InPieces};
 use message::{Event, Message, MessageNumbers};
 use policy::{LineNumbers, PolicyNumbers};
 use refusal::Refusal;
@@ -135,6 +135,6 @@ fn show_vector(rt: &impl Print, line: &[u8]) -> io::Result<()> {
 }
 
 fn main(rt: HostRuntime) {
-    let out = BestEffort(&rt);
+    let out = InPieces(&rt);
     hex_lines::echo_lines(&out, |line| show_vector(&out, line));
 }

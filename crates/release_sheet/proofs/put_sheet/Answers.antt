@@ -1,20 +1,14 @@
--- The lines of the sheet fit: their words have at most 15 bytes, their two numbers at most 20 digits each. Assumes nothing.
-use Rattle.std.proofs.Common.{arith, ◌∷◌, ◌++◌, codes}
+-- The lines of the sheet fit, whatever their words are. Assumes nothing.
+use Rattle.std.proofs.Common.{arith, ◌++◌, codes}
 use Rattle.std.specs.Fmt.{decimal}
-use Rattle.release_sheet.proofs.Lines.{number_then_fits, number_fits}
+use Rattle.release_sheet.proofs.Lines.{number_then_fits, number_fits, numbers_fit}
 use Rattle.release_sheet.proofs.put_sheet.Goals as goal
 
 pub put_line-requires-clause-fits : goal.put_line-requires-clause-fits
-put_line-requires-clause-fits g c =
-    let minute = c.loop-minute.minute-counter in
-    let rule = c.loop-rule.rule-counter in
-    omega (arith, number_then_fits minute (32 ∷ (decimal rule ++ codes " kept")) (omega arith), number_then_fits rule (codes " kept") (omega arith))
+put_line-requires-clause-fits g c = numbers_fit _ _ _ (omega arith) (omega arith) (omega arith)
 
 pub put_line-requires-in-Violated-clause-fits : goal.put_line-requires-in-Violated-clause-fits
-put_line-requires-in-Violated-clause-fits g c =
-    let minute = c.loop-minute.minute-counter in
-    let rule = c.loop-rule.rule-counter in
-    omega (arith, number_then_fits minute (32 ∷ (decimal rule ++ codes " broken")) (omega arith), number_then_fits rule (codes " broken") (omega arith))
+put_line-requires-in-Violated-clause-fits g c = numbers_fit _ _ _ (omega arith) (omega arith) (omega arith)
 
 pub put_line-requires-2-clause-fits : goal.put_line-requires-2-clause-fits
 put_line-requires-2-clause-fits g c =
