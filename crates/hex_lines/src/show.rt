@@ -2,6 +2,7 @@
 ghost use Rattle.std.specs.Prelude.{◌≡◌, ◌↔◌, true, IsTrue, All, codes};
 
 use std::fmt;
+use std::fmt::InlineText;
 
 // Bytes in hexadecimal, with nothing between them.
 #[derive(Clone, Copy)]
@@ -39,7 +40,8 @@ pub fn joined<'a>(digits: &'a [u8]) -> Listed<'a, u8>
 impl fmt::Display for Hex<'_> {
     fn fmt<W: fmt::Write>(&self, f: &mut fmt::Formatter<W>) -> fmt::Result {
         for byte in self.0 {
-            write!(f, "{:02X}", *byte)?;
+            // Both digits at once: they are one part of what is printed.
+            f.write_str(InlineText::<2>::of(format_args!("{:02X}", *byte)).as_str())?;
         }
         Ok(())
     }
